@@ -10,5 +10,5 @@ mod tests;
 pub use commands::{
     change_of, fields_fault, held_blocks, length_fault, listed_ranges, needed, put_ranges, range_of,
 };
-pub use requests::{is_for_unit, is_ordered, is_outside, is_unit_0, is_untold};
-pub use senses::{attention_sense, plain, refusal};
+pub use requests::{goes_before_attentions, is_for_unit, is_ordered, is_outside, is_unit_0};
+pub use senses::{attention_sense, plain, refusal_sense};

@@ -1,7 +1,7 @@
 // What a request says beside its command.
 ghost use Rattle.std.specs.Prelude.{◌≡◌, ◌+◌, nat_lt};
 ghost use Rattle.satl_base.specs.Lists.{is_in};
-ghost use Rattle.satl_direct.specs.Arrival.{is_unit_0, untold_codes};
+ghost use Rattle.satl_direct.specs.Arrival.{is_unit_0, codes_before_attentions};
 ghost use Rattle.satl_direct.specs.Tasks.{is_ordered};
 ghost use Rattle.satl_asks.specs.Requests.{is_for_unit};
 
@@ -10,8 +10,8 @@ use satl_cdb::{INQUIRY, REPORT_LUNS, REQUEST_SENSE};
 
 /// Whether a command of this operation code is carried out before a unit attention is told: INQUIRY, REPORT LUNS and REQUEST
 /// SENSE (SAM-5 5.14).
-pub fn is_untold(code: u8) -> bool
-    ensures { result ≡ is_in code untold_codes }
+pub fn goes_before_attentions(code: u8) -> bool
+    ensures { result ≡ is_in code codes_before_attentions }
 {
     matches!(code, INQUIRY | REPORT_LUNS | REQUEST_SENSE)
 }

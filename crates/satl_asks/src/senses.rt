@@ -1,6 +1,6 @@
 // Sense data by the reason for them.
 ghost use Rattle.std.specs.Prelude.{◌≡◌};
-ghost use Rattle.satl_direct.specs.Senses.{attention_sense, plain, pointer_to, refusal};
+ghost use Rattle.satl_direct.specs.Senses.{attention_sense, plain, pointer_to, refusal_sense};
 
 use satl_cdb::Illegal;
 use satl_sense::{Extra, Sense};
@@ -36,8 +36,8 @@ fn pointer_to(in_cdb: bool, pointer: Option<u16>) -> Extra
 }
 
 /// The sense data of a refused command.
-pub fn refusal(why: Illegal) -> Sense
-    ensures { result ≡ refusal why }
+pub fn refusal_sense(why: Illegal) -> Sense
+    ensures { result ≡ refusal_sense why }
 {
     Sense {
         key: 0x5,

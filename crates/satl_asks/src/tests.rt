@@ -82,7 +82,7 @@ fn who_is_told_first(rt: HostRuntime) {
     ]
     .iter()
     {
-        assert_eq!(rt; is_untold(*code), *first);
+        assert_eq!(rt; goes_before_attentions(*code), *first);
     }
     assert!(rt; is_unit_0(&[0; 8]));
     assert!(rt; !is_unit_0(&[0, 1, 0, 0, 0, 0, 0, 0]));
@@ -92,7 +92,7 @@ fn who_is_told_first(rt: HostRuntime) {
 
 #[test]
 fn refusals_point_at_their_byte(rt: HostRuntime) {
-    let field = refusal(Illegal::invalid_field(3));
+    let field = refusal_sense(Illegal::invalid_field(3));
     assert_eq!(rt; (field.key, field.asc, field.ascq), (0x5, 0x24, 0x00));
     assert_eq!(rt;
         field.extra,
@@ -102,7 +102,7 @@ fn refusals_point_at_their_byte(rt: HostRuntime) {
         }
     );
     assert_eq!(rt;
-        refusal(Illegal::invalid_operation_code()),
+        refusal_sense(Illegal::invalid_operation_code()),
         plain(0x5, 0x20, 0x00)
     );
     assert_eq!(rt; attention_sense(Attention::PowerOn), plain(0x6, 0x29, 0x01));

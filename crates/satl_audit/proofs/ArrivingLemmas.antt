@@ -14,7 +14,7 @@ use Rattle.satl_unit.specs.declared.attention.Attention.{Attention}
 use Rattle.satl_frame.specs.Output.{all_answered, reply_bytes}
 use Rattle.satl_frame.specs.Output.Answer.{replied}
 use Rattle.satl_line.specs.declared.entry.Entry.{Entry}
-use Rattle.satl_direct.specs.Device.{Device, is_called, untold}
+use Rattle.satl_direct.specs.Device.{Device, is_called, attentions_left}
 use Rattle.satl_direct.specs.Arrival.{Arrival, ArrivesAs, arrival, asks_for, attention_arrival, attention_for, attention_told, check, code_arrival, is_unit_0, other_arrival, placed, reply_to}
 use Rattle.satl_direct.specs.Arrival.Arrival.{answered, attended, overlaps, waits}
 use Rattle.satl_direct.specs.Senses.{attention_sense, overlapped}
@@ -99,7 +99,7 @@ module _ (i : Identity) (input : List ℕ) (ps : List Placed) (attentions : List
   attends : (what : Attention) (sense : Sense) → Some what ≡ attention_told attentions r → sense ≡ attention_sense what → arrival begun r ≡ attended (check begun r sense)
   attends what sense next is = attention_first begun r unit alone ∙ ap (λ (o : Option Attention). attention_arrival o begun r) (sym next) ∙ ap (λ (x : Sense). attended (check begun r x)) (sym is)
 
-  pub attention_goes : (new : List (List Attention)) (what : Attention) (sense : Sense) (output left : List ℕ) → Some what ≡ attention_told attentions r → new ≡ untold (Some what) r.nexus attentions → sense ≡ attention_sense what →
+  pub attention_goes : (new : List (List Attention)) (what : Attention) (sense : Sense) (output left : List ℕ) → Some what ≡ attention_told attentions r → new ≡ attentions_left (Some what) r.nexus attentions → sense ≡ attention_sense what →
       output ≡ reply_bytes (reply_to r CheckCondition (fixed_form sense)) ++ left → ArrivesOn r begun (device_without_sectors i input ps new) output left
   attention_goes new what sense output left next told is e = attended_goes r begun (device_without_sectors i input ps new) (check begun r sense) output left (attends what sense next is) (refl, ap (device_without_sectors i input ps) told) e
 

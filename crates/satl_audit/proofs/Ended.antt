@@ -90,7 +90,7 @@ turn_made s reply deed bared cells h d does =
         may = second_case (IsFirst s.tasks t) (IsEligible s.tasks t) (s.down || not s.started) (neither s.down s.started h.up h.started) d.eligible;
         ends =
             second_case (IsChecked link_lost s t reply r.new) (Started s t reply r.new) s.down h.up
-            (second_case (IsChecked not_ready s t reply r.new) (EndsBy t.command s t reply r.new) (not s.started && (asks t.command).starts) (off s.started (asks t.command).starts h.started) r.ends);
+            (second_case (IsChecked not_ready s t reply r.new) (EndsBy t.command s t reply r.new) (not s.started && (asks t.command).needs_started) (off s.started (asks t.command).needs_started h.started) r.ends);
       };
       bared_is = r.stays ∙ sym d.stays;
       cells_are = r.cells_are;

@@ -60,7 +60,7 @@ device_without_sectors identity input waiting attentions = record {
 abbrev pub StandsAt : List ℕ → ℕ → ℕ → List Block → Type 0
 StandsAt input at bytes body = (count : ℕ) → 512 * count ≤ bytes → take count body ≡ input_blocks input at count
 
--- a request goes to logical unit 0 with a name that no task has, and its data-out stands in the input (SAM-5 4.6.4, 4.7;
+-- a request goes to logical unit 0 with a name that no task has, and its data-out stands in the input (SAM-5 4.6, 4.7;
 -- profile)
 pub record IsSent (input : List ℕ) (at : ℕ) (r : Request) (waiting : List Placed) : Type 0 where
   pub unit : is_unit_0 r.lun ≡ true

@@ -3,7 +3,7 @@ ghost use Rattle.std.specs.Prelude.{◌≡◌, ◌+◌, ◌≤◌, ℕ, [], true
 ghost use Rattle.satl_cdb.specs.Table.{says};
 ghost use Rattle.satl_cover.specs.Known.{is_known};
 ghost use Rattle.satl_audit.specs.Arriving.{CannotPlace, Goes, Places, Sticks};
-ghost use Rattle.satl_direct.specs.Device.{untold};
+ghost use Rattle.satl_direct.specs.Device.{attentions_left};
 ghost use Rattle.satl_direct.specs.Arrival.{attention_told};
 ghost use Rattle.satl_audit.specs.Waiting.{AllFit, MayWait};
 
@@ -11,7 +11,7 @@ use crate::cursor::Cursor;
 use crate::judging::{AtOnce, judge, task_of};
 use crate::reply::{pass_check, pass_status};
 use crate::waiting::Waiting;
-use satl_asks::{attention_sense, is_untold};
+use satl_asks::{attention_sense, goes_before_attentions};
 use satl_base::{NoMemory, Request, Scsi};
 use satl_cdb::Command;
 use satl_identify::Identity;
@@ -53,9 +53,9 @@ impl<'a> Steps<'a> {
 /// The unit attention that a request is answered with, which is told by that (SAM-5 5.14).
 fn next_attention(attentions: &mut [Attentions; 4], request: &Request) -> Option<Attention>
     ensures next { result ≡ attention_told attentions.old request.now }
-    ensures left { attentions.new ≡ untold result request.now.nexus attentions.old }
+    ensures left { attentions.new ≡ attentions_left result request.now.nexus attentions.old }
 {
-    if is_untold(request.cdb[0]) {
+    if goes_before_attentions(request.cdb[0]) {
         return None;
     }
     attentions[request.nexus.number() as usize].next()

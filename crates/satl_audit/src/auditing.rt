@@ -1,5 +1,5 @@
 // A record is judged.
-ghost use Rattle.std.specs.Prelude.{◌≡◌, ◌<◌, ◌^◌, ◌++◌, IfOk, List, Ok, length};
+ghost use Rattle.std.specs.Prelude.{◌<◌, ◌++◌, IfOk, List, Ok};
 ghost use Rattle.satl_identify.specs.Refusals.{IsIdentity};
 ghost use Rattle.satl_frame.specs.declared.frames.Frame.{Frame};
 ghost use Rattle.satl_frame.specs.Output.{out_magic};

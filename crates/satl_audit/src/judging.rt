@@ -10,7 +10,7 @@ ghost use Rattle.satl_audit.specs.Arriving.{BecomesJudged, IsServing, placed_or_
 ghost use Rattle.satl_audit.specs.Waiting.{IsTransfer, MayWait};
 
 use arrayvec::ArrayVec;
-use satl_asks::{held_blocks, is_ordered, is_outside, needed, plain, range_of, refusal};
+use satl_asks::{held_blocks, is_ordered, is_outside, needed, plain, range_of, refusal_sense};
 use satl_base::{Pages, Range, Request};
 use satl_cdb::{Command, read_cdb};
 use satl_identify::Identity;
@@ -81,7 +81,7 @@ pub fn judge(identity: &Identity, request: &Request) -> Result<Command, AtOnce>
 {
     match read_cdb(&request.cdb, identity.trim) {
         Ok(command) => judge_command(identity, request, command),
-        Err(why) => Err(AtOnce::Check(refusal(why))),
+        Err(why) => Err(AtOnce::Check(refusal_sense(why))),
     }
 }
 

@@ -54,7 +54,7 @@ impl Default for Nexus {
     }
 }
 
-/// A command identifier of 32 bits (SAM-5 4.9).
+/// A command identifier of 32 bits (SAM-5, command identifier).
 #[derive(Clone, Copy, Debug, Default, PartialEq, Eq)]
 pub struct Tag(pub u32);
 

@@ -32,7 +32,8 @@ page_code_byte control page = control % 4 * 64 + page % 64
 -- the lines of each command; a form that a command does not have is written as that of 16 bytes
 abbrev pub lines_of : Command → List Line
 lines_of commands.TestUnitReady = byte 0 0x00 ∷ []
-lines_of (commands.RequestSense descriptor alloc) = byte 0 request_sense_code ∷ byte 1 (bit_value 0 descriptor) ∷ byte 4 alloc ∷ []
+lines_of (commands.RequestSense descriptor alloc) =
+    byte 0 request_sense_code ∷ byte 1 (bit_value 0 descriptor) ∷ byte 4 alloc ∷ []
 lines_of (commands.Inquiry None alloc) = byte 0 inquiry_code ∷ number 3 4 alloc ∷ []
 lines_of (commands.Inquiry (Some page) alloc) = byte 0 inquiry_code ∷ byte 1 0x01 ∷ byte 2 page ∷ number 3 4 alloc ∷ []
 lines_of (commands.ModeSense false long_lba no_descriptor control page alloc) =

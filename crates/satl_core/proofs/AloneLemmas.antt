@@ -18,7 +18,7 @@ alike_at : (x alone : Alone) (starts : Bool) → some_of x ≡ some_of alone →
 alike_at x alone starts e same = let one : x ≡ alone = cc in subst (λ a. starts ≡ needs_start a) one same
 
 -- the command and what it does alone need a started unit alike
-pub starts_alike : (command : Command) (alone : Alone) → alone_of command ≡ Some alone → (asks command).starts ≡ needs_start alone
+pub starts_alike : (command : Command) (alone : Alone) → alone_of command ≡ Some alone → (asks command).needs_started ≡ needs_start alone
 starts_alike (cdbs.Flush form lba count) alone is = alike_at _ alone true is refl
 starts_alike (cdbs.ModeSelect ten size) alone is = alike_at _ alone false is refl
 starts_alike (cdbs.StartStop start no_flush) alone is = alike_at _ alone false is refl
@@ -31,13 +31,13 @@ starts_alike (cdbs.Pass cdb) alone is = alike_at _ alone false is refl
 starts_alike _ alone is = absurd cc
 
 -- so is the test of a stopped unit
-pub stops_alike : (command : Command) (alone : Alone) (started : Bool) → alone_of command ≡ Some alone → (not started && (asks command).starts) ≡ (not started && needs_start alone)
+pub stops_alike : (command : Command) (alone : Alone) (started : Bool) → alone_of command ≡ Some alone → (not started && (asks command).needs_started) ≡ (not started && needs_start alone)
 stops_alike command alone started is = ap (λ b. not started && b) (starts_alike command alone is)
 
 -- a task that is carried out ends so, where the link is up and the unit is started if need be
-pub ends_carried : (down started : Bool) (wanted : Modes) (alone : Alone) (ending : Ending) (old new : TaskOnDrive) → down ≡ false → (not started && (asks old.task.command).starts) ≡ false → alone_of old.task.command ≡ Some alone
+pub ends_carried : (down started : Bool) (wanted : Modes) (alone : Alone) (ending : Ending) (old new : TaskOnDrive) → down ≡ false → (not started && (asks old.task.command).needs_started) ≡ false → alone_of old.task.command ≡ Some alone
     → CarriedOut wanted alone ending old new → TaskEnds (record { down = down; started = started; wanted = wanted }) ending old new
 ends_carried down started wanted alone ending old new up ready is carried =
-    subst (λ b. MatchBool b (IsUnasked link_lost old.drive ending new.drive) (MatchBool (not started && (asks old.task.command).starts) (IsUnasked not_ready old.drive ending new.drive) (DoneAlone wanted ending old new))) (sym up)
+    subst (λ b. MatchBool b (IsUnasked link_lost old.drive ending new.drive) (MatchBool (not started && (asks old.task.command).needs_started) (IsUnasked not_ready old.drive ending new.drive) (DoneAlone wanted ending old new))) (sym up)
     (subst (λ b. MatchBool b (IsUnasked not_ready old.drive ending new.drive) (DoneAlone wanted ending old new)) (sym ready)
     (subst (λ o. IsSomeAnd o (λ a. CarriedOut wanted a ending old new)) (sym is) carried))

@@ -20,10 +20,10 @@ use Rattle.satl_line.specs.Tasks.{Held, entries_of, is_too_much, total_blocks}
 use Rattle.satl_line.specs.declared.entry.Entry.{Entry}
 use Rattle.satl_drive.specs.State.{DriveState}
 use Rattle.satl_unit.specs.declared.attention.Attention.{Attention}
-use Rattle.satl_direct.specs.Device.{Device, is_of, untold}
-use Rattle.satl_direct.specs.Senses.{attention_sense, no_sense, out_of_range, overlapped, refusal, sense_spelled, short_data, unknown_unit}
+use Rattle.satl_direct.specs.Device.{Device, is_of, attentions_left}
+use Rattle.satl_direct.specs.Senses.{attention_sense, no_sense, out_of_range, overlapped, refusal_sense, sense_spelled, short_data, unknown_unit}
 use Rattle.satl_direct.specs.Arrival as direct
-use Rattle.satl_direct.specs.Arrival.{untold_codes, attended, Arrival, ArrivesAs, Arrives, answered, waits, arrival, asks_for, attention_arrival, cdb_arrival, check, code_arrival, operation_code, other_arrival, unit_arrival}
+use Rattle.satl_direct.specs.Arrival.{codes_before_attentions, attended, Arrival, ArrivesAs, Arrives, answered, waits, arrival, asks_for, attention_arrival, cdb_arrival, check, code_arrival, operation_code, other_arrival, unit_arrival}
 use Rattle.satl_direct.specs.Tasks.{asks, held_by, is_full, needed, range_of, task_for, task_of, task_without_pages}
 use Rattle.satl_core.specs.declared.submitting.AtOnce.{AtOnce}
 use Rattle.satl_core.specs.declared.submitting.AtOnce.TheVariants as at_once
@@ -105,16 +105,16 @@ tested_arrival l d r fields outside header short sound next =
 -- the tests answer what those of the device answer
 tests_at_once : (l : Layer) (d : DriveState) (r : Request) (a : AtOnce) (fields : Option Illegal) (outside : Bool) (header : Option Illegal) (short : Bool) (sound : Option Illegal) (next : Result Command AtOnce) (then : Arrival)
     → (next ≡ Err a → then ≡ answered (reply_at_once l.identity l.modes r a)) → tested fields outside header short sound next ≡ Err a → tested_arrival l d r fields outside header short sound then ≡ answered (reply_at_once l.identity l.modes r a)
-tests_at_once l d r a (Some why) outside header short sound next then go e = same_answer l d r (at_once.Check (refusal why)) a _ refl e
+tests_at_once l d r a (Some why) outside header short sound next then go e = same_answer l d r (at_once.Check (refusal_sense why)) a _ refl e
 tests_at_once l d r a None true header short sound next then go e = same_answer l d r (at_once.Check out_of_range) a _ refl e
-tests_at_once l d r a None false (Some why) short sound next then go e = same_answer l d r (at_once.Check (refusal why)) a _ refl e
+tests_at_once l d r a None false (Some why) short sound next then go e = same_answer l d r (at_once.Check (refusal_sense why)) a _ refl e
 tests_at_once l d r a None false None true sound next then go e = same_answer l d r (at_once.Check short_data) a _ refl e
-tests_at_once l d r a None false None false (Some why) next then go e = same_answer l d r (at_once.Check (refusal why)) a _ refl e
+tests_at_once l d r a None false None false (Some why) next then go e = same_answer l d r (at_once.Check (refusal_sense why)) a _ refl e
 tests_at_once l d r a None false None false None next then go e = go e
 
 cdb_at_once : (l : Layer) (d : DriveState) (r : Request) (a : AtOnce) (found : Result Command Illegal) → (slice_index r.cdb 0 ≡ 0x03 → first_of l r ≡ None) → l.down ≡ d.down → says r.cdb l.identity.trim ≡ found → cdb_answer l r found ≡ Err a
     → cdb_arrival (view l d) r found ≡ answered (reply_at_once l.identity l.modes r a)
-cdb_at_once l d r a (Err why) none mark said e = same_answer l d r (at_once.Check (refusal why)) a _ refl e
+cdb_at_once l d r a (Err why) none mark said e = same_answer l d r (at_once.Check (refusal_sense why)) a _ refl e
 cdb_at_once l d r a (Ok c) none mark said e =
     tests_at_once l d r a (asks c).fields_fault (nat_lt l.identity.capacity ((range_of c).lba + (range_of c).count)) (asks c).length_fault (nat_lt r.data_len (needed c)) ((asks c).data_fault l.identity l.modes r.body) (answer_to l r.body c) (direct.becomes (view l d) r c)
     (becomes_at_once l d r a c (said_of r.cdb l.identity.trim c said) none mark) e
@@ -137,7 +137,7 @@ arrival_by unit over what s r = cond unit (cond over (direct.overlaps (check s r
 -- the layer by these tests
 abbrev once_judged_by : Bool → Bool → Option Attention → Layer → Request → Layer
 once_judged_by unit over what l r =
-    cond (not unit) l (cond over (record l { tasks = left_by (is_of r.nexus) l.tasks }) (record l { attentions = untold what r.nexus l.attentions }))
+    cond (not unit) l (cond over (record l { tasks = left_by (is_of r.nexus) l.tasks }) (record l { attentions = attentions_left what r.nexus l.attentions }))
 
 other_is : (l : Layer) (d : DriveState) (r : Request) → other_arrival (view l d) r ≡ answered (reply_at_once l.identity l.modes r (other_answer r))
 other_is l d r =
@@ -183,7 +183,7 @@ attended_sense false true first s r is first_is = attended_first first s r is fi
 attended_sense false false first s r is first_is = attended_first first s r is first_is
 
 attended_is : (first : Option Attention) (s : Device) (r : Request) → slice_get (slice_index_or s.attentions r.nexus []) 0 ≡ first
-    → attention_arrival (cond (is_in (operation_code r) untold_codes) None first) s r ≡ attended_arrival (cond (is_in (operation_code r) untold_codes && not (operation_code r == 0x03)) None first) s r
+    → attention_arrival (cond (is_in (operation_code r) codes_before_attentions) None first) s r ≡ attended_arrival (cond (is_in (operation_code r) codes_before_attentions && not (operation_code r == 0x03)) None first) s r
 attended_is first s r first_is =
     (elim (operation_code r == 0x03) as (λ b. (operation_code r == 0x03) ≡ b → attention_arrival (cond (untold_by (operation_code r == 0x12) (operation_code r == 0xA0) b) None first) s r ≡ attended_arrival (cond (untold_by (operation_code r == 0x12) (operation_code r == 0xA0) b && not b) None first) s r) [
       | true ↦ λ is. attended_sense (operation_code r == 0x12) (operation_code r == 0xA0) first s r is first_is
@@ -218,7 +218,7 @@ answers_by true false None l d r a first mark e = subst (λ x. Answers x l d r a
 
 -- REQUEST SENSE is answered with the first condition
 sense_first : (l : Layer) (r : Request) → slice_index r.cdb 0 ≡ 0x03 → first_of l r ≡ attention_of l.attentions r
-sense_first l r code = sym (ap (λ code. cond (is_in code untold_codes && not (code == 0x03)) None (first_of l r)) code)
+sense_first l r code = sym (ap (λ code. cond (is_in code codes_before_attentions && not (code == 0x03)) None (first_of l r)) code)
 
 pub answers_at_once : (l : Layer) (s : Device) (d : DriveState) (r : Request) (a : AtOnce) (replies : List Reply) → l.down ≡ d.down → judged l r ≡ Err a → replies ≡ reply_at_once l.identity l.modes r a ∷ [] → s ≡ view (once_judged l r) d → Arrives r (view l d) replies s
 answers_at_once l s d r a replies mark e is same =

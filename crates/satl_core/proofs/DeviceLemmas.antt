@@ -79,13 +79,13 @@ abbrev EndsSo : Bool → Bool → Device → Entry → Reply → Device → Type
 EndsSo down stops s t reply new = MatchBool down (IsChecked link_lost s t reply new) (MatchBool stops (IsChecked not_ready s t reply new) (EndsBy t.command s t reply new))
 
 pub ends_down : (s : Device) (t : Entry) (reply : Reply) (new : Device) → s.down ≡ true → IsChecked link_lost s t reply new → Ends s t reply new
-ends_down s t reply new down e = subst (λ b. EndsSo b (not s.started && (asks t.command).starts) s t reply new) (sym down) e
+ends_down s t reply new down e = subst (λ b. EndsSo b (not s.started && (asks t.command).needs_started) s t reply new) (sym down) e
 
-pub ends_stopped : (s : Device) (t : Entry) (reply : Reply) (new : Device) → s.down ≡ false → (not s.started && (asks t.command).starts) ≡ true → IsChecked not_ready s t reply new → Ends s t reply new
-ends_stopped s t reply new up stopped e = subst (λ b. EndsSo b (not s.started && (asks t.command).starts) s t reply new) (sym up) (subst (λ b. EndsSo false b s t reply new) (sym stopped) e)
+pub ends_stopped : (s : Device) (t : Entry) (reply : Reply) (new : Device) → s.down ≡ false → (not s.started && (asks t.command).needs_started) ≡ true → IsChecked not_ready s t reply new → Ends s t reply new
+ends_stopped s t reply new up stopped e = subst (λ b. EndsSo b (not s.started && (asks t.command).needs_started) s t reply new) (sym up) (subst (λ b. EndsSo false b s t reply new) (sym stopped) e)
 
-pub ends_by : (s : Device) (t : Entry) (reply : Reply) (new : Device) → s.down ≡ false → (not s.started && (asks t.command).starts) ≡ false → EndsBy t.command s t reply new → Ends s t reply new
-ends_by s t reply new up ready e = subst (λ b. EndsSo b (not s.started && (asks t.command).starts) s t reply new) (sym up) (subst (λ b. EndsSo false b s t reply new) (sym ready) e)
+pub ends_by : (s : Device) (t : Entry) (reply : Reply) (new : Device) → s.down ≡ false → (not s.started && (asks t.command).needs_started) ≡ false → EndsBy t.command s t reply new → Ends s t reply new
+ends_by s t reply new up ready e = subst (λ b. EndsSo b (not s.started && (asks t.command).needs_started) s t reply new) (sym up) (subst (λ b. EndsSo false b s t reply new) (sym ready) e)
 
 -- the first task is gone, and nothing else has changed
 pub first_gone : (identity : Identity) (modes : Modes) (started : Bool) (attentions : List (List Attention)) (t : Entry) (others : List Entry) (d : DriveState) → seen identity modes started attentions others d ≡ record (seen identity modes started attentions (t ∷ others) d) { tasks = without t (t ∷ others) }

@@ -57,7 +57,7 @@ still_settled (c ∷ cells) [] all loses = absurd loses
 pub flush_done : (down started : Bool) (wanted : Modes) (old new : TaskOnDrive) (ending : Ending) → IsFlush old.task.command → ending ≡ endings.Good → TaskEnds (record { down = down; started = started; wanted = wanted }) ending old new → AllByRecursion IsSettled new.drive.cells
 flush_done true started wanted old new ending flush good = λ ends. let sensed = ends.sensed in absurd cc
 flush_done false started wanted old new ending flush good =
-    elim (not started && (asks old.task.command).starts) as (λ b. MatchBool b (IsUnasked not_ready old.drive ending new.drive) (DoneAlone wanted ending old new) → AllByRecursion IsSettled new.drive.cells) [
+    elim (not started && (asks old.task.command).needs_started) as (λ b. MatchBool b (IsUnasked not_ready old.drive ending new.drive) (DoneAlone wanted ending old new) → AllByRecursion IsSettled new.drive.cells) [
       | true ↦ λ x. let sensed = x.sensed in absurd cc
       | false ↦ λ x. carried old.task.command flush x
     ]

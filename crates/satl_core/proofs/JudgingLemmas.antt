@@ -30,7 +30,6 @@ use Rattle.satl_core.specs.Layer.{FitsCapacity, IsTask, IsWithin, Layer}
 use Rattle.satl_asks.specs.Commands.{CanPass, HasList}
 use Rattle.satl_asks.specs.Requests.{is_for_unit}
 use Rattle.satl_core.specs.Submitting.{answer_to, other_answer, attention_answer, attention_of, cdb_answer, code_answer, command_answer, judged, overlaps, readiness, HasLengths, HoldsList, is_idle, trims, unless_idle, unless_illegal, unmap_list_fault}
-use Rattle.satl_direct.specs.Device.{untold}
 use Rattle.satl_core.proofs.SayingLemmas.{IsSaid, said_of}
 
 -- a command that is answered from what the device says of itself

@@ -35,7 +35,7 @@ use Rattle.satl_barrier.specs.Finishing as barrier
 use Rattle.satl_barrier.specs.Finishing.{ComparesAs, FinishesAs, IsVerified, IsTorn, trimming_ranges, verifying_range, writing_same}
 use Rattle.satl_direct.specs.Device.{Device, without}
 use Rattle.satl_direct.specs.Tasks.{asks, task_of}
-use Rattle.satl_direct.specs.Ending.{EndsBy, EndsCompared, EndsGarbled, EndsInPieces, EndsOnMedium, EndsVerified, IsChecked, IsCompared, IsTaskDone, IsPartlyWritten, same_pairs, task_check, task_reply}
+use Rattle.satl_direct.specs.Ending.{EndsBy, EndsCompared, EndsGlitched, EndsInPieces, EndsOnSurface, EndsVerified, IsChecked, IsCompared, IsTaskDone, IsPartlyWritten, same_pairs, task_check, task_reply}
 use Rattle.satl_direct.specs.Quiet.{MayShow, MayWake, Quiet, is_pass, wakes, writes}
 use Rattle.satl_direct.specs.Senses.{crc_error, miscompare, read_error, write_error}
 use Rattle.satl_direct.proofs.Quieting.{quiet_none}
@@ -69,7 +69,7 @@ same_is lba count (b ∷ body) cached some = refl
 -- ---- the first task ends, and the drive has done this
 
 module _ (identity : Identity) (modes : Modes) (started : Bool) (attentions : List (List Attention)) (entry : Entry) (others : List Entry) (d d' : DriveState)
-    (ready : (not started && (asks entry.command).starts) ≡ false) (wakes_it : wakes entry.command ≡ true) where
+    (ready : (not started && (asks entry.command).needs_started) ≡ false) (wakes_it : wakes entry.command ≡ true) where
   abbrev before : Device
   before = seen identity modes started attentions (task_of entry ∷ others) d
 
@@ -121,8 +121,8 @@ verified_by : (s : Device) (t : Entry) (reply : Reply) (new : Device) (range : R
 verified_by s t reply new range o is x = subst (λ o. MatchOption o (IsTaskDone (record s { active = true }) t reply new) (λ at. IsChecked (read_error at) s t reply new)) (sym is) x
 
 compared_by : (s : Device) (t : Entry) (reply : Reply) (new : Device) (range : Range) (o : Option ℕ) → first_flaw flaws.Read s.cells range.lba range.count ≡ o
-    → MatchOption o (EndsGarbled [] s t reply new ⊎ IsCompared range s t reply new) (λ at. IsChecked (read_error at) s t reply new) → EndsCompared range s t reply new
-compared_by s t reply new range o is x = subst (λ o. MatchOption o (EndsGarbled [] s t reply new ⊎ IsCompared range s t reply new) (λ at. IsChecked (read_error at) s t reply new)) (sym is) x
+    → MatchOption o (EndsGlitched [] s t reply new ⊎ IsCompared range s t reply new) (λ at. IsChecked (read_error at) s t reply new) → EndsCompared range s t reply new
+compared_by s t reply new range o is x = subst (λ o. MatchOption o (EndsGlitched [] s t reply new ⊎ IsCompared range s t reply new) (λ at. IsChecked (read_error at) s t reply new)) (sym is) x
 
 -- what a WRITE SAME writes
 abbrev same_writes : Range → Device → Entry → List Pair
@@ -137,7 +137,7 @@ stays_so : (s new : Device) (cells : List Cell) (tasks : List Entry) (glitches :
 stays_so s new cells tasks glitches same is left = same ∙ (ap (λ c. record s { cells = c; tasks = tasks; glitches = glitches }) is ∙ ap (λ n. record s { tasks = tasks; glitches = n }) left)
 
 -- a CRC error, with part of what is written
-garbled : (s : Device) (t : Entry) (reply : Reply) (new : Device) (torn : List Cell) (writes : List Pair) (left : ℕ) → reply ≡ task_check s t crc_error → new ≡ record s { cells = torn; tasks = without t s.tasks; glitches = left } → Part s.cells writes torn → left + 1 ≡ s.glitches → EndsGarbled writes s t reply new
+garbled : (s : Device) (t : Entry) (reply : Reply) (new : Device) (torn : List Cell) (writes : List Pair) (left : ℕ) → reply ≡ task_check s t crc_error → new ≡ record s { cells = torn; tasks = without t s.tasks; glitches = left } → Part s.cells writes torn → left + 1 ≡ s.glitches → EndsGlitched writes s t reply new
 garbled s t reply new torn writes left answer same part one = record {
   answer = answer;
   part = subst (Part s.cells writes) (sym (ap (λ (x : Device). x.cells) same)) part;
@@ -152,7 +152,7 @@ torn_by s t new torn writes left same part unspent = record {
   stays = same ∙ (ap (λ n. record s { cells = torn; tasks = without t s.tasks; glitches = n }) unspent ∙ sym (ap (λ (x : Device). record s { cells = x.cells; tasks = without t s.tasks }) same));
 }
 
-trim_done : (s : Device) (t : Entry) (reply : Reply) (new : Device) (ranges : List Range) (writes : List Pair) → writes ≡ zeros_over ranges s.modes.wce → IsTaskDone (record s { cells = whole s.cells writes; active = true }) t reply new → EndsOnMedium (ranged_trim ranges) s t reply new
+trim_done : (s : Device) (t : Entry) (reply : Reply) (new : Device) (ranges : List Range) (writes : List Pair) → writes ≡ zeros_over ranges s.modes.wce → IsTaskDone (record s { cells = whole s.cells writes; active = true }) t reply new → EndsOnSurface (ranged_trim ranges) s t reply new
 trim_done s t reply new ranges writes pairs e = record {
   outcome = ends_done [];
   ends = record { no_flaw = refl; read = refl; written = ap (λ (x : Device). x.cells) e.stays ∙ ap (whole s.cells) pairs; glitches_stay = ap (λ (x : Device). x.glitches) e.stays };
@@ -160,7 +160,7 @@ trim_done s t reply new ranges writes pairs e = record {
   stays = e.stays ∙ sym (ap (λ (x : Device). record s { cells = x.cells; tasks = without t s.tasks; glitches = x.glitches; active = true }) e.stays);
 }
 
-trim_garbled : (s : Device) (t : Entry) (reply : Reply) (new : Device) (torn : List Cell) (ranges : List Range) (left : ℕ) → reply ≡ task_check s t crc_error → new ≡ record s { cells = torn; tasks = without t s.tasks; glitches = left } → Part s.cells (zeros_over ranges s.modes.wce) torn → left + 1 ≡ s.glitches → EndsOnMedium (ranged_trim ranges) s t reply new
+trim_garbled : (s : Device) (t : Entry) (reply : Reply) (new : Device) (torn : List Cell) (ranges : List Range) (left : ℕ) → reply ≡ task_check s t crc_error → new ≡ record s { cells = torn; tasks = without t s.tasks; glitches = left } → Part s.cells (zeros_over ranges s.modes.wce) torn → left + 1 ≡ s.glitches → EndsOnSurface (ranged_trim ranges) s t reply new
 trim_garbled s t reply new torn ranges left answer same part one = record {
   outcome = ends_glitched;
   ends = record { no_flaw = refl; written = subst (Part s.cells (zeros_over ranges s.modes.wce)) (sym (ap (λ (x : Device). x.cells) same)) part; one_glitch = ap (λ (x : Device). x.glitches + 1) same ∙ one };
@@ -185,7 +185,7 @@ module _ (identity : Identity) (modes : Modes) (started : Bool) (attentions : Li
   EndsSo c ending = EndsOne (with_it c) (ended_reply (asking c) ending modes.d_sense) (seen identity modes started attentions others d')
 
   -- a flaw is met, where nothing is written
-  flawed_turn : (c : Command) (t : Transfer) (at : ℕ) → (not started && (asks c).starts) ≡ false → wakes c ≡ true → t.writes ≡ [] → barrier.StopsAtFlaw t at d d'
+  flawed_turn : (c : Command) (t : Transfer) (at : ℕ) → (not started && (asks c).needs_started) ≡ false → wakes c ≡ true → t.writes ≡ [] → barrier.StopsAtFlaw t at d d'
       → ((reply : Reply) (new : Device) → IsChecked (read_error at) (roused c) (task_of (asking c)) reply new → EndsBy c (roused c) (task_of (asking c)) reply new) → EndsSo c (medium.flawed false at)
   flawed_turn c t at ready wake none x how =
       torn_turn identity modes started attentions (asking c) others d d' ready wake t (read_error at) x.torn (ap (λ (y : DriveState). y.down) x.stays)
@@ -247,8 +247,8 @@ module _ (identity : Identity) (modes : Modes) (started : Bool) (attentions : Li
             (λ reply new answer same. inl (x.no_flaw, garbled (roused (cdbs.WriteSame form lba count false)) (task_of (asking (cdbs.WriteSame form lba count false))) reply new x.torn.torn (same_pairs lba count entry.body modes.wce) d'.glitches answer same (subst (λ ps. Part d.cells ps x.torn.torn) pairs x.torn.part) x.one))
 
     -- a trim of these ranges, by whichever command
-    trimmed_turn : (c : Command) (ranges : List Range) (ending : Ending) → (not started && (asks c).starts) ≡ false → wakes c ≡ true → read_pages c entry.body ≡ []
-        → ((s : Device) (reply : Reply) (new : Device) → EndsOnMedium (ranged_trim ranges) s (task_of (asking c)) reply new → EndsBy c s (task_of (asking c)) reply new) → HasFinished (trimming_ranges ranges d) 0 d ending d' → EndsSo c ending
+    trimmed_turn : (c : Command) (ranges : List Range) (ending : Ending) → (not started && (asks c).needs_started) ≡ false → wakes c ≡ true → read_pages c entry.body ≡ []
+        → ((s : Device) (reply : Reply) (new : Device) → EndsOnSurface (ranged_trim ranges) s (task_of (asking c)) reply new → EndsBy c s (task_of (asking c)) reply new) → HasFinished (trimming_ranges ranges d) 0 d ending d' → EndsSo c ending
     trimmed_turn c ranges ending ready wake none how h = subst (EndsSo c) (sym h.told) (by h.finish h.is)
       where
         pairs : (trimming_ranges ranges d).writes ≡ zeros_over ranges modes.wce
@@ -315,12 +315,12 @@ written_is identity modes started attentions entry others d pairs pair set told 
 
 -- so it may show, as the first task, where the unit is started if the command needs it
 pub shows : (identity : Identity) (modes : Modes) (started : Bool) (attentions : List (List Attention)) (entry : Entry) (others : List Entry) (d : DriveState) (pairs : List Pair) → IsSetBy modes d → TellsOf identity.bytes d
-    → WritesAlone entry d pairs entry.command → (not started && (asks entry.command).starts) ≡ false → IsKeptEntry identity entry → (pair : Pair) → IsIn pair pairs
+    → WritesAlone entry d pairs entry.command → (not started && (asks entry.command).needs_started) ≡ false → IsKeptEntry identity entry → (pair : Pair) → IsIn pair pairs
     → MayShow (seen identity modes started attentions (task_of entry ∷ others) d) pair
 shows identity modes started attentions entry others d pairs set told written ready kept pair i = record {
   task = task_of entry;
   under_way = record { up = set.up; eligible = inl refl };
-  started = on started (asks entry.command).starts (is_pass entry.command) ready starts_it;
+  started = on started (asks entry.command).needs_started (is_pass entry.command) ready starts_it;
   among = written_is identity modes started attentions entry others d pairs pair set told written kept i;
 }
   where
@@ -329,9 +329,9 @@ shows identity modes started attentions entry others d pairs set told written re
     on false true p e h = absurd cc
     on false false p e h = h
 
-    starts_it : (asks entry.command).starts || is_pass entry.command ≡ true
+    starts_it : (asks entry.command).needs_started || is_pass entry.command ≡ true
     starts_it =
-        of_task (λ c. WritesAlone entry d pairs c → (asks c).starts || is_pass c ≡ true) identity.capacity entry.blocks entry.command
+        of_task (λ c. WritesAlone entry d pairs c → (asks c).needs_started || is_pass c ≡ true) identity.capacity entry.blocks entry.command
         (λ form lba count fua t is. absurd is) (λ form lba count fua t is. absurd is) (λ form lba count none is. refl) (λ start no_flush none is. absurd (subst (IsIn pair) is.1 i)) (λ ten size none is. absurd (subst (IsIn pair) is.1 i))
         (λ form lba count t is. refl) (λ form lba count t is. refl)
-        (λ form lba count unmap t is. elim unmap as (λ b. (asks (cdbs.WriteSame form lba count b)).starts || false ≡ true) [ true ↦ refl | false ↦ refl ]) (λ size t is. refl) (λ cdb t is. refl) kept.task written
+        (λ form lba count unmap t is. elim unmap as (λ b. (asks (cdbs.WriteSame form lba count b)).needs_started || false ≡ true) [ true ↦ refl | false ↦ refl ]) (λ size t is. refl) (λ cdb t is. refl) kept.task written

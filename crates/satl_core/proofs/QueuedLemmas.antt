@@ -31,7 +31,7 @@ use Rattle.satl_line.specs.Tasks.{Held, entries_of}
 use Rattle.satl_line.proofs.EligibleLemmas.{eligible_formed}
 use Rattle.satl_drive.specs.State.{DriveState}
 use Rattle.satl_direct.specs.Device.{Device, is_called, without}
-use Rattle.satl_direct.specs.Ending.{EndsBy, EndsOnMedium, medium_error, outcome_reply, task_check, task_reply}
+use Rattle.satl_direct.specs.Ending.{EndsBy, EndsOnSurface, medium_error, outcome_reply, task_check, task_reply}
 use Rattle.satl_direct.specs.Quiet.{MayShow, Quiet, is_pass, writes, written_by}
 use Rattle.satl_direct.specs.Senses.{crc_error, read_error, write_error}
 use Rattle.satl_direct.specs.Tasks.{task_of}
@@ -73,13 +73,13 @@ writes_of s e ranged h = writes_by e.command s e e.ranges.items ranged refl (by_
 
 -- how it ends
 ends_ranged : (command : Command) (s : Device) (e : Entry) (ranges : List Range) (ranged : RangedTask) (reply : Reply) (new : Device) → e.ranges.items ≡ ranges → ranged_by command ranges e.body ≡ Some ranged
-    → EndsOnMedium ranged s (task_of (record e { command = command })) reply new → EndsBy command s (task_of (record e { command = command })) reply new
+    → EndsOnSurface ranged s (task_of (record e { command = command })) reply new → EndsBy command s (task_of (record e { command = command })) reply new
 ends_ranged (commands.Read form lba count fua) s e ranges ranged reply new same h m =
-    let is : ranged_read fua (record { lba = lba; count = count }) ≡ ranged = cc in subst (λ r. EndsOnMedium r s (task_of (record e { command = commands.Read form lba count fua })) reply new) (sym is) m
+    let is : ranged_read fua (record { lba = lba; count = count }) ≡ ranged = cc in subst (λ r. EndsOnSurface r s (task_of (record e { command = commands.Read form lba count fua })) reply new) (sym is) m
 ends_ranged (commands.Write form lba count fua) s e ranges ranged reply new same h m =
-    let is : ranged_write fua (record { lba = lba; count = count }) e.body ≡ ranged = cc in subst (λ r. EndsOnMedium r s (task_of (record e { command = commands.Write form lba count fua })) reply new) (sym is) m
+    let is : ranged_write fua (record { lba = lba; count = count }) e.body ≡ ranged = cc in subst (λ r. EndsOnSurface r s (task_of (record e { command = commands.Write form lba count fua })) reply new) (sym is) m
 ends_ranged (commands.Unmap a) s e ranges ranged reply new same h m =
-    let is : ranged_trim ranges ≡ ranged = cc in subst (λ r. EndsOnMedium r s (task_of (record e { command = commands.Unmap a })) reply new) (sym (ap ranged_trim same ∙ is)) m
+    let is : ranged_trim ranges ≡ ranged = cc in subst (λ r. EndsOnSurface r s (task_of (record e { command = commands.Unmap a })) reply new) (sym (ap ranged_trim same ∙ is)) m
 ends_ranged _ s e ranges ranged reply new same h m = absurd cc
 
 -- ---- the answer to a task that has ended
@@ -250,7 +250,7 @@ module _ (l : Layer) (d : DriveState) (agrees : Agrees l d) (w : works l ≡ tru
       task = task;
       may = subst (λ b. MatchBool (b || not l.started) (turns.IsFirst (view l d).tasks task) (IsEligible (view l d).tasks task)) (sym is_up)
           (subst (λ b. MatchBool (not b) (turns.IsFirst (view l d).tasks task) (IsEligible (view l d).tasks task)) (sym (works_so l w).1) (eligible_seen l.tasks s.held s.eligible));
-      ends = ends_by mid_before task (outcome_reply mid_before task s.ranged outcome) mid_after is_up (ap (λ b. not b && (Rattle.satl_direct.specs.Tasks.asks task.command).starts) (works_so l w).1)
+      ends = ends_by mid_before task (outcome_reply mid_before task s.ranged outcome) mid_after is_up (ap (λ b. not b && (Rattle.satl_direct.specs.Tasks.asks task.command).needs_started) (works_so l w).1)
           (ends_ranged s.held.entry.command mid_before s.held.entry s.held.entry.ranges.items s.ranged (outcome_reply mid_before task s.ranged outcome) mid_after refl (by_command s.held.entry s.ranged s.ranged_is)
           (record {
             outcome = outcome;

@@ -52,7 +52,7 @@ use Rattle.satl_core.proofs.Transfers.{of_task}
 use Rattle.satl_mode.specs.Changes.{wanted_by}
 
 -- a task that moves no has is done, and leaves these sectors
-left_turn : (identity : Identity) (modes modes' : Modes) (started started' : Bool) (attentions attentions' : List (List Attention)) (entry : Entry) (others : List Entry) (d d' : DriveState) (cells : List Cell) (active : Bool) (ending : Ending) → (not started && (asks entry.command).starts) ≡ false
+left_turn : (identity : Identity) (modes modes' : Modes) (started started' : Bool) (attentions attentions' : List (List Attention)) (entry : Entry) (others : List Entry) (d d' : DriveState) (cells : List Cell) (active : Bool) (ending : Ending) → (not started && (asks entry.command).needs_started) ≡ false
     → ((reply : Reply) (new : Device) → IsTaskDone (record (seen identity modes started attentions (task_of entry ∷ others) d) { cells = cells; active = active; started = started'; modes = modes'; attentions = attentions' }) (task_of entry) reply new → EndsBy entry.command (seen identity modes started attentions (task_of entry ∷ others) d) (task_of entry) reply new)
     → d.down ≡ false → Loses cells d'.cells → d'.active ≡ active → d'.down ≡ d.down → d'.glitches ≡ d.glitches → ending ≡ endings.Good → read_pages entry.command entry.body ≡ []
     → EndsOne (seen identity modes started attentions (task_of entry ∷ others) d) (ended_reply entry ending modes.d_sense) (seen identity modes' started' attentions' others d')
@@ -74,7 +74,7 @@ left_turn identity modes modes' started started' attentions attentions' entry ot
     }))
 
 -- the same where the mode values stay
-bare_turn : (identity : Identity) (modes : Modes) (started started' : Bool) (attentions : List (List Attention)) (entry : Entry) (others : List Entry) (d d' : DriveState) (cells : List Cell) (active : Bool) (ending : Ending) → (not started && (asks entry.command).starts) ≡ false
+bare_turn : (identity : Identity) (modes : Modes) (started started' : Bool) (attentions : List (List Attention)) (entry : Entry) (others : List Entry) (d d' : DriveState) (cells : List Cell) (active : Bool) (ending : Ending) → (not started && (asks entry.command).needs_started) ≡ false
     → ((reply : Reply) (new : Device) → IsTaskDone (record (seen identity modes started attentions (task_of entry ∷ others) d) { cells = cells; active = active; started = started' }) (task_of entry) reply new → EndsBy entry.command (seen identity modes started attentions (task_of entry ∷ others) d) (task_of entry) reply new)
     → IsLeftWith cells active d d' → ending ≡ endings.Good → read_pages entry.command entry.body ≡ []
     → EndsOne (seen identity modes started attentions (task_of entry ∷ others) d) (ended_reply entry ending modes.d_sense) (seen identity modes started' attentions others d')
@@ -145,10 +145,10 @@ ended_seen identity modes wanted started attentions entry ending others d =
 
 -- what the drive did for a task ends it
 task_turn : (identity : Identity) (modes : Modes) (started : Bool) (attentions : List (List Attention)) (entry : Entry) (left : Entry) (others : List Entry) (d d' : DriveState) (ending : Ending) → IsKeptEntry identity entry → IsSetBy modes d → TellsOf identity.bytes d
-    → (not started && (asks entry.command).starts) ≡ false → IfSome (alone_of entry.command) (λ alone. CanCarry alone entry d) → DoneAlone (wanted_by modes entry.modes) ending (task_on entry d) (task_on left d')
+    → (not started && (asks entry.command).needs_started) ≡ false → IfSome (alone_of entry.command) (λ alone. CanCarry alone entry d) → DoneAlone (wanted_by modes entry.modes) ending (task_on entry d) (task_on left d')
     → EndsOne (seen identity modes started attentions (task_of entry ∷ others) d) (ended_reply (record entry { body = left.body }) ending modes.d_sense) (ended_seen identity modes (wanted_by modes entry.modes) started attentions entry ending others d')
 task_turn identity modes started attentions entry left others d d' ending kept set told ready has x =
-    of_task (λ c. (not started && (asks c).starts) ≡ false → IfSome (alone_of c) (λ alone. CanCarry alone entry d) → DoneAlone (wanted_by modes entry.modes) ending (task_on (record entry { command = c }) d) (task_on left d') → Ends c) identity.capacity entry.blocks entry.command
+    of_task (λ c. (not started && (asks c).needs_started) ≡ false → IfSome (alone_of c) (λ alone. CanCarry alone entry d) → DoneAlone (wanted_by modes entry.modes) ending (task_on (record entry { command = c }) d) (task_on left d') → Ends c) identity.capacity entry.blocks entry.command
     (λ form lba count fua t ready has x. absurd x)
     (λ form lba count fua t ready has x. absurd x)
     (λ form lba count none ready has x. bare (cdbs.Flush form lba count) refl refl (bare_turn identity modes started started attentions (record entry { command = cdbs.Flush form lba count }) others d d' (map settle d.cells) d.active ending ready (λ reply new e. e) x.1 x.0 refl))
@@ -161,7 +161,7 @@ task_turn identity modes started attentions entry left others d d' ending kept s
     (selected_turn identity modes started ten size attentions entry others d d' ending set.cache x.1 x.0)))
     (λ form lba count t ready has x. bare (cdbs.Verify form lba count false) refl refl (check_turn identity modes started attentions entry others d d' form lba count ending ready x))
     (λ form lba count t ready has x. bare (cdbs.Verify form lba count true) refl refl (compare_turn identity modes started attentions entry others d d' form lba count ending ready x))
-    (λ form lba count unmap. elim unmap as (λ b. (entry.blocks ≡ 1) × FitsCapacity identity.capacity lba count → (not started && (asks (cdbs.WriteSame form lba count b)).starts) ≡ false → IfSome (alone_of (cdbs.WriteSame form lba count b)) (λ alone. CanCarry alone entry d) → DoneAlone (wanted_by modes entry.modes) ending (task_on (record entry { command = cdbs.WriteSame form lba count b }) d) (task_on left d') → Ends (cdbs.WriteSame form lba count b)) [
+    (λ form lba count unmap. elim unmap as (λ b. (entry.blocks ≡ 1) × FitsCapacity identity.capacity lba count → (not started && (asks (cdbs.WriteSame form lba count b)).needs_started) ≡ false → IfSome (alone_of (cdbs.WriteSame form lba count b)) (λ alone. CanCarry alone entry d) → DoneAlone (wanted_by modes entry.modes) ending (task_on (record entry { command = cdbs.WriteSame form lba count b }) d) (task_on left d') → Ends (cdbs.WriteSame form lba count b)) [
       | true ↦ λ t ready has x. bare (cdbs.WriteSame form lba count true) refl refl (zero_turn identity modes started attentions entry others d d' set.cache form lba count ending ready x)
       | false ↦ λ t ready has x. bare (cdbs.WriteSame form lba count false) refl refl (same_turn identity modes started attentions entry others d d' set.cache form lba count ending ready has.0 x)
     ])
@@ -185,7 +185,7 @@ task_turn identity modes started attentions entry left others d d' ending kept s
 
 -- the pairs of the first task may show
 lost_turn : (identity : Identity) (modes : Modes) (started : Bool) (attentions : List (List Attention)) (entry : Entry) (others : List Entry) (d d' : DriveState) (pairs : List Pair) (answers : List Reply) → IsSetBy modes d → TellsOf identity.bytes d
-    → WritesAlone entry d pairs entry.command → (not started && (asks entry.command).starts) ≡ false → IsKeptEntry identity entry
+    → WritesAlone entry d pairs entry.command → (not started && (asks entry.command).needs_started) ≡ false → IsKeptEntry identity entry
     → IsLostIn pairs d d' → answers ≡ turns.device_lost_replies (seen identity modes started attentions (task_of entry ∷ others) d) → Around Turn (seen identity modes started attentions (task_of entry ∷ others) d) answers (seen identity modes started attentions [] d')
 lost_turn identity modes started attentions entry others d d' pairs answers set told written ready kept x is =
     let s : Device = seen identity modes started attentions (task_of entry ∷ others) d in
@@ -237,7 +237,7 @@ unasked_turn identity modes wanted started attentions entry taken others d d' se
 
 -- a unit that is stopped, or the drive
 up_turn : (stopped : Bool) (identity : Identity) (modes : Modes) (started : Bool) (attentions : List (List Attention)) (entry : Entry) (left : Entry) (others : List Entry) (d d' : DriveState) (ending : Ending)
-    → IsKeptEntry identity entry → IsSetBy modes d → TellsOf identity.bytes d → IfSome (alone_of entry.command) (λ alone. CanCarry alone entry d) → (not started && (asks entry.command).starts) ≡ stopped
+    → IsKeptEntry identity entry → IsSetBy modes d → TellsOf identity.bytes d → IfSome (alone_of entry.command) (λ alone. CanCarry alone entry d) → (not started && (asks entry.command).needs_started) ≡ stopped
     → MatchBool stopped (IsUnasked not_ready d ending d') (DoneAlone (wanted_by modes entry.modes) ending (task_on entry d) (task_on left d'))
     → EndsOne (seen identity modes started attentions (task_of entry ∷ others) d) (ended_reply (record entry { body = left.body }) ending modes.d_sense) (ended_seen identity modes (wanted_by modes entry.modes) started attentions entry ending others d')
 up_turn true identity modes started attentions entry left others d d' ending kept set told has stopped x =
@@ -252,7 +252,7 @@ ended_turn : (identity : Identity) (modes : Modes) (down started : Bool) (attent
 ended_turn identity modes true started attentions entry left others d d' ending mark kept set told has x =
     unasked_turn identity modes (wanted_by modes entry.modes) started attentions entry left.body others d d' link_lost ending (λ reply mid e. ends_down _ _ _ _ (sym mark) e) x kept
 ended_turn identity modes false started attentions entry left others d d' ending mark kept set told has x =
-    up_turn (not started && (asks entry.command).starts) identity modes started attentions entry left others d d' ending kept (set refl) told has refl x
+    up_turn (not started && (asks entry.command).needs_started) identity modes started attentions entry left others d d' ending kept (set refl) told has refl x
 
 -- where the link is lost it ends with sense data, and the drive is not asked
 pub task_unasked : (down started : Bool) (wanted : Modes) (old new : TaskOnDrive) (ending : Ending) → TaskEnds (record { down = down; started = started; wanted = wanted }) ending old new → down ≡ true → (sense : Sense) × (ending ≡ endings.Check sense)

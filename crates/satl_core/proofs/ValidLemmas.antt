@@ -24,7 +24,7 @@ use Rattle.satl_drive.specs.State.{DriveState, IsFit}
 use Rattle.satl_base.specs.Identify.{has_cache, has_look}
 use Rattle.satl_sense.specs.declared.sense.Sense.{Sense}
 use Rattle.satl_direct.specs.Arrival.{waits}
-use Rattle.satl_direct.specs.Device.{Device, is_called, is_of, once_told, untold}
+use Rattle.satl_direct.specs.Device.{Device, is_called, is_of, once_told, attentions_left}
 use Rattle.satl_direct.specs.Tasks.{held_blocks, held_by, is_full, task_for, task_of, task_without_pages}
 use Rattle.satl_direct.specs.Valid.{HasCome, IsValid}
 use Rattle.satl_direct.proofs.Conditions.{valid_attended}
@@ -88,16 +88,16 @@ told_kept (suc nexus) (conditions ∷ lists) all = (all.0, told_kept nexus lists
 valid_told : (nexus : ℕ) (s : Device) → IsValid s → IsValid (once_told nexus s)
 valid_told nexus s v = valid_attended s _ (length-set s.attentions nexus (drop 1 (get_or s.attentions nexus [])) ∙ v.nexuses) (told_kept nexus s.attentions v.attentions) v
 
-valid_untold : (what : Option Attention) (l : Layer) (d : DriveState) (nexus : ℕ) → IsValid (view l d) → IsValid (view (record l { attentions = untold what nexus l.attentions }) d)
+valid_untold : (what : Option Attention) (l : Layer) (d : DriveState) (nexus : ℕ) → IsValid (view l d) → IsValid (view (record l { attentions = attentions_left what nexus l.attentions }) d)
 valid_untold None l d nexus v = v
 valid_untold (Some what) l d nexus v = valid_told nexus (view l d) v
 
 -- judging a request leaves a valid device
 pub once_judged_valid : (l : Layer) (d : DriveState) (r : Request) → IsValid (view l d) → IsValid (view (once_judged l r) d)
 once_judged_valid l d r v =
-    elim (is_for_unit r) as (λ b. IsValid (view (cond (not b) l (cond (overlaps l.tasks r) (record l { tasks = left_by (is_of r.nexus) l.tasks }) (record l { attentions = untold (attention_of l.attentions r) r.nexus l.attentions }))) d)) [
+    elim (is_for_unit r) as (λ b. IsValid (view (cond (not b) l (cond (overlaps l.tasks r) (record l { tasks = left_by (is_of r.nexus) l.tasks }) (record l { attentions = attentions_left (attention_of l.attentions r) r.nexus l.attentions }))) d)) [
       | false ↦ v
-      | true ↦ (elim (overlaps l.tasks r) as (λ b. IsValid (view (cond b (record l { tasks = left_by (is_of r.nexus) l.tasks }) (record l { attentions = untold (attention_of l.attentions r) r.nexus l.attentions })) d)) [
+      | true ↦ (elim (overlaps l.tasks r) as (λ b. IsValid (view (cond b (record l { tasks = left_by (is_of r.nexus) l.tasks }) (record l { attentions = attentions_left (attention_of l.attentions r) r.nexus l.attentions })) d)) [
         | true ↦ subst (λ ts. IsValid (record (view l d) { tasks = ts })) (sym (left_tasks (is_of r.nexus) (is_of r.nexus) (λ t. refl) l.tasks)) (valid_left (λ t. not (is_of r.nexus t)) (view l d) v)
         | false ↦ valid_untold (attention_of l.attentions r) l d r.nexus v
       ])

@@ -18,9 +18,9 @@ use Rattle.satl_identify.specs.declared.identity.Identity.{Identity}
 use Rattle.satl_sense.specs.declared.sense.Sense.{Sense}
 use Rattle.satl_regs.specs.Trim.{trim_block}
 use Rattle.satl_unit.specs.declared.attention.Attention.{Attention}
-use Rattle.satl_direct.specs.Arrival.{asks_for, good_with_data, operation_code, reply_to, sense_asked, untold_codes}
-use Rattle.satl_direct.specs.Device.{is_of, untold}
-use Rattle.satl_direct.specs.Senses.{attention_sense, link_lost, no_sense, not_ready, out_of_range, overlapped, refusal, sense_text, short_data, unknown_unit}
+use Rattle.satl_direct.specs.Arrival.{asks_for, good_with_data, operation_code, reply_to, sense_asked, codes_before_attentions}
+use Rattle.satl_direct.specs.Device.{is_of, attentions_left}
+use Rattle.satl_direct.specs.Senses.{attention_sense, link_lost, no_sense, not_ready, out_of_range, overlapped, refusal_sense, sense_text, short_data, unknown_unit}
 use Rattle.satl_direct.specs.Tasks.{asks, needed, range_of, task_for, task_of, task_without_pages}
 use Rattle.satl_asks.specs.Commands.{IsList}
 use Rattle.satl_asks.specs.Requests.{is_for_unit}
@@ -87,7 +87,7 @@ answer_to l body command = unless_idle l body command
 -- refused with this, if there is something, and else what follows (SPC-4 4.5.6)
 abbrev pub unless_illegal : Option Illegal → Result Command AtOnce → Result Command AtOnce
 unless_illegal None next = next
-unless_illegal (Some why) next = Err (at_once.Check (refusal why))
+unless_illegal (Some why) next = Err (at_once.Check (refusal_sense why))
 
 -- why a command whose fields and range are good is answered at once, but for a full task set (profile)
 abbrev pub data_answer : Layer → Request → Command → Result Command AtOnce
@@ -105,7 +105,7 @@ command_answer l r command =
 
 -- what the CDB says, and then the command (profile)
 abbrev pub cdb_answer : Layer → Request → Result Command Illegal → Result Command AtOnce
-cdb_answer l r (Err why) = Err (at_once.Check (refusal why))
+cdb_answer l r (Err why) = Err (at_once.Check (refusal_sense why))
 cdb_answer l r (Ok command) = command_answer l r command
 
 -- what the CDB says, or that its operation code is unknown, and then the command (profile)
@@ -156,7 +156,7 @@ arrival_calls tasks r = if is_overlapping tasks r then off_calls else 1
 -- the unit attention condition that a request is answered with; REQUEST SENSE tells it as data (SAM-5 5.14, SPC-4 6.39)
 abbrev pub attention_of : List (List Attention) → Request → Option Attention
 attention_of attentions r =
-    if is_in (operation_code r) untold_codes && not (asks_for request_sense_code r) then None
+    if is_in (operation_code r) codes_before_attentions && not (asks_for request_sense_code r) then None
     else slice_get (slice_index_or attentions r.nexus []) 0
 
 -- the answer to a REQUEST SENSE with this sense data (SPC-4 6.39)
@@ -166,7 +166,8 @@ sense_data cdb sense = at_once.Tell (datas.Sense (desc cdb) sense) (sense_length
 -- a condition is told: as data to REQUEST SENSE, and else by CHECK CONDITION (SAM-5 5.14, SPC-4 6.39)
 abbrev pub tell_attention : Attention → List ℕ → AtOnce
 tell_attention what cdb =
-    if slice_index cdb 0 == request_sense_code then sense_data cdb (attention_sense what) else at_once.Check (attention_sense what)
+    if slice_index cdb 0 == request_sense_code then sense_data cdb (attention_sense what)
+    else at_once.Check (attention_sense what)
 
 -- a unit attention, and without one what follows (profile)
 abbrev pub attention_answer : Option Attention → List ℕ → Result Command AtOnce → Result Command AtOnce
@@ -194,7 +195,7 @@ abbrev pub once_judged : Layer → Request → Layer
 once_judged l r =
     if not (is_for_unit r) then l
     else if overlaps l.tasks r then record l { tasks = left_by (is_of r.nexus) l.tasks }
-    else record l { attentions = untold (attention_of l.attentions r) r.nexus l.attentions }
+    else record l { attentions = attentions_left (attention_of l.attentions r) r.nexus l.attentions }
 
 -- a request finds a full task set: nothing else changes, and no page is out (SAM-5 5.3.1)
 pub record FindsSetFull (r : Request) (old : Layer) (replies : List Reply) (new : Layer) : Type 0 where

@@ -153,14 +153,14 @@ DoneAlone wanted ending old new = IsSomeAnd (alone_of old.task.command) (λ alon
 abbrev pub TaskEnds : Circumstances → Ending → TaskOnDrive → TaskOnDrive → Type 0
 TaskEnds found ending old new =
     MatchBool found.down (IsUnasked link_lost old.drive ending new.drive)
-    (MatchBool (not found.started && (asks old.task.command).starts) (IsUnasked not_ready old.drive ending new.drive)
+    (MatchBool (not found.started && (asks old.task.command).needs_started) (IsUnasked not_ready old.drive ending new.drive)
     (DoneAlone found.wanted ending old new))
 
 -- the link was lost while a task was carried out that writes these pairs, at a unit that is started where the command needs it
 -- (profile)
 pub record IsLostInTask (down started : Bool) (t : Entry) (old new : DriveState) : Type 0 where
   pub was_up : down ≡ false
-  pub ready : (not started && (asks t.command).starts) ≡ false
+  pub ready : (not started && (asks t.command).needs_started) ≡ false
   pub pairs : List Pair
   pub written : IsSomeAnd (alone_of t.command) (λ alone. HasWhole alone t × (pairs ≡ written_alone alone t old))
   pub lost : IsLostIn pairs old new

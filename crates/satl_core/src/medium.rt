@@ -1,8 +1,8 @@
 // Commands that go over the medium alone on the drive: VERIFY, WRITE SAME and trims that are not queued.
-ghost use Rattle.std.specs.Prelude.{◌≡◌, ◌≤◌, ◌+◌, ◌∷◌, [], IfOk, OnErr, false, if◌then◌else◌, length, min, get_or, slice_index_or};
+ghost use Rattle.std.specs.Prelude.{◌≡◌, ◌≤◌, ◌+◌, [], IfOk, OnErr, false, length, min, get_or};
 ghost use Rattle.satl_base.specs.Blocks.{no_block};
 ghost use Rattle.satl_base.specs.Limits.{most_moved, piece};
-ghost use Rattle.satl_barrier.specs.Finishing.{IsReached, trimming_ranges, verifying_range, writing_same};
+ghost use Rattle.satl_barrier.specs.Finishing.{IsReached, trimming_ranges, writing_same};
 ghost use Rattle.satl_barrier.specs.Leaving.{IsFree, IsLostIn, Stays};
 ghost use Rattle.satl_direct.specs.Senses;
 ghost use Rattle.satl_core.specs.Medium as medium;

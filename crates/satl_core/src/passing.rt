@@ -1,5 +1,5 @@
 // ATA PASS-THROUGH: a host's own ATA command.
-ghost use Rattle.std.specs.Prelude.{◌≡◌, ◌≤◌, ◌+◌, IfOk, OnErr, length};
+ghost use Rattle.std.specs.Prelude.{◌≡◌, ◌+◌, IfOk, OnErr, length};
 ghost use Rattle.satl_frame.specs.DataPages.{page_count};
 ghost use Rattle.satl_regs.specs.Commands.{command_in};
 ghost use Rattle.satl_regs.specs.Effects.{pairs_of};

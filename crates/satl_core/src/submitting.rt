@@ -13,12 +13,12 @@ ghost use Rattle.satl_base.specs.Limits.{IsExpectable};
 ghost use Rattle.satl_base.specs.Blocks.{is_zeros};
 ghost use Rattle.satl_asks.specs.Commands.{CanPass, HasList, IsList};
 ghost use Rattle.satl_core.specs.Submitting.{HasEntries, HasLengths, HasListUnlessEmpty, HoldsList, answer_to, attention_of, code_answer, command_answer, data_answer, is_idle, other_answer, readiness, reply_at_once, sense_data, tell_attention, trims, unless_idle, unmap_list_fault};
-ghost use Rattle.satl_direct.specs.Device.{untold};
+ghost use Rattle.satl_direct.specs.Device.{attentions_left};
 
 use crate::satl::Satl;
 use satl_asks::{
-    attention_sense, change_of, fields_fault, held_blocks, is_ordered, is_outside, is_untold,
-    length_fault, listed_ranges, needed, plain, put_ranges, range_of, refusal,
+    attention_sense, change_of, fields_fault, goes_before_attentions, held_blocks, is_ordered,
+    is_outside, length_fault, listed_ranges, needed, plain, put_ranges, range_of, refusal_sense,
 };
 use satl_base::{Block, Modes, Pages, Replies, Reply, Request, Scsi, SenseBytes};
 use satl_cdb::{Command, INQUIRY, Illegal, REQUEST_SENSE, desc, evpd, read_cdb, read_unmap_list};
@@ -88,9 +88,9 @@ pub fn tell_attention(what: Attention, request: &Request) -> AtOnce
 /// The unit attention that a request is answered with, which is told by that (SAM-5 5.14; of REQUEST SENSE: SPC-4 6.39).
 pub fn next_attention(attentions: &mut [Attentions; 4], request: &Request) -> Option<Attention>
     ensures next { result ≡ attention_of attentions.old request.now }
-    ensures left { attentions.new ≡ untold result request.now.nexus attentions.old }
+    ensures left { attentions.new ≡ attentions_left result request.now.nexus attentions.old }
 {
-    if is_untold(request.cdb[0]) && request.cdb[0] != REQUEST_SENSE {
+    if goes_before_attentions(request.cdb[0]) && request.cdb[0] != REQUEST_SENSE {
         return None;
     }
     attentions[request.nexus.number() as usize].next()
@@ -114,7 +114,7 @@ pub fn judge_code(satl: &Satl, request: &Request) -> Result<Command, AtOnce>
 {
     match read_cdb(&request.cdb, satl.identity.trim) {
         Ok(command) => judge_command(satl, request, &command),
-        Err(why) => Err(AtOnce::Check(refusal(why))),
+        Err(why) => Err(AtOnce::Check(refusal_sense(why))),
     }
 }
 
@@ -125,7 +125,7 @@ fn judge_command(satl: &Satl, request: &Request, command: &Command) -> Result<Co
     ensures can { IfOk result CanPass }
 {
     if let Some(why) = fields_fault(command) {
-        return Err(AtOnce::Check(refusal(why)));
+        return Err(AtOnce::Check(refusal_sense(why)));
     }
     let range = range_of(command);
     if is_outside(range, satl.identity.capacity) {
@@ -140,13 +140,13 @@ fn judge_data(satl: &Satl, request: &Request, command: &Command) -> Result<Comma
     ensures { result ≡ data_answer satl.now request.now command.now }
 {
     if let Some(why) = length_fault(command) {
-        return Err(AtOnce::Check(refusal(why)));
+        return Err(AtOnce::Check(refusal_sense(why)));
     }
     if u64::from(request.data_len) < needed(command) {
         return Err(AtOnce::Check(plain(0xB, 0x4B, 0x00)));
     }
     match data_fault(satl, request, command) {
-        Some(why) => Err(AtOnce::Check(refusal(why))),
+        Some(why) => Err(AtOnce::Check(refusal_sense(why))),
         None => answer_to(satl, request, command),
     }
 }

@@ -1,5 +1,5 @@
 // Reading an input to its END.
-ghost use Rattle.std.specs.Prelude.{◌≡◌, IfOk, IfErr};
+ghost use Rattle.std.specs.Prelude.{IfOk, IfErr};
 ghost use Rattle.satl_cover.specs.Reading.{ReadWhole, Refuses};
 
 use crate::fault::AuditFault;

@@ -23,7 +23,7 @@ fn is_known(command: Result<Command, Illegal>) -> bool
     }
 }
 
-/// Whether a LUN is that of logical unit 0 (SAM-5 4.6.4).
+/// Whether a LUN is that of logical unit 0 (SAM-5 4.6).
 fn is_unit_0(lun: &[u8; 8]) -> bool
     ensures { result ≡ is_unit_0 lun.now }
 {

@@ -25,7 +25,7 @@ use Rattle.satl_frame.specs.DataPages.{pages_of}
 use Rattle.satl_line.specs.declared.entry.Entry.{Entry}
 use Rattle.satl_direct.specs.Device.{Device, attentions_of, is_called, of_others, once_told}
 use Rattle.satl_direct.specs.Tasks.{asks, is_full, needed, range_of, task_for}
-use Rattle.satl_direct.specs.Senses.{attention_sense, link_lost, no_sense, not_ready, out_of_range, overlapped, refusal, sense_spelled, sense_text, short_data, unknown_unit}
+use Rattle.satl_direct.specs.Senses.{attention_sense, link_lost, no_sense, not_ready, out_of_range, overlapped, refusal_sense, sense_spelled, sense_text, short_data, unknown_unit}
 
 -- the operation code (SPC-4 4.3)
 abbrev pub operation_code : Request → ℕ
@@ -65,7 +65,7 @@ good_with_data r alloc text =
       expected = r.expected;
     }
 
--- the logical unit 0: eight bytes of zero (SAM-5 4.6.4)
+-- the logical unit 0: eight bytes of zero (SAM-5 4.6)
 abbrev pub is_unit_0 : List ℕ → Bool
 is_unit_0 lun = is_zeros lun
 
@@ -115,9 +115,9 @@ sense_asked ten long_lba no_descriptor control page = record {
   page = page;
 }
 
--- what becomes of a command whose fields and data-out are good: it is answered from what the device says of itself; or, where
--- it is TEST UNIT READY or has nothing to do, as `ready_reply` says; or it is placed. A SYNCHRONIZE CACHE is placed whatever
--- its count is (SPC-4 6, SBC-3 5)
+-- what becomes of a command whose fields and data-out are good: it is answered from what the device says of itself, REQUEST
+-- SENSE by `sense_told`; or, where it is TEST UNIT READY or has nothing to do, as `ready_reply` says; or it is placed. A
+-- SYNCHRONIZE CACHE is placed whatever its count is (SPC-4 6, SBC-3 5)
 abbrev pub becomes : Device → Request → Command → Arrival
 becomes s r commands.TestUnitReady = answered (ready_reply s r)
 becomes s r (commands.RequestSense descriptor alloc) = sense_told (slice_get (attentions_of r.nexus s) 0) r descriptor alloc
@@ -140,7 +140,7 @@ becomes s r (commands.Pass cdb) = placed s r (commands.Pass cdb)
 -- refused with this, if there is something, and else what follows (SPC-4 4.5.6)
 abbrev pub unless_refused : Option Illegal → Device → Request → Arrival → Arrival
 unless_refused None s r next = next
-unless_refused (Some why) s r next = answered (check s r (refusal why))
+unless_refused (Some why) s r next = answered (check s r (refusal_sense why))
 
 -- the data-out is judged: whether the list has a good length, whether there are as many bytes as the command needs, and what is
 -- in them; bytes beyond those are ignored. Where all is good, the command becomes what `becomes` says (SBC-3 5; profile)
@@ -156,20 +156,22 @@ command_arrival s r command =
     if nat_lt s.identity.capacity ((range_of command).lba + (range_of command).count) then answered (check s r out_of_range)
     else data_arrival s r command
 
--- the fields: the lowest byte at fault, or for ATA PASS-THROUGH the first rule that is broken (SPC-4 4.3; SAT-3 12.2)
+-- the fields: the lowest byte at fault, or for ATA PASS-THROUGH the first rule that is broken (SPC-4 4.3; SAT-3
+-- 12.2; which fault is told: profile)
 abbrev pub cdb_arrival : Device → Request → Result Command Illegal → Arrival
-cdb_arrival s r (Err why) = answered (check s r (refusal why))
+cdb_arrival s r (Err why) = answered (check s r (refusal_sense why))
 cdb_arrival s r (Ok command) = unless_refused (asks command).fields_fault s r (command_arrival s r command)
 
 -- the codes of commands that are carried out though a unit attention condition is posted: INQUIRY, REPORT LUNS and REQUEST
 -- SENSE (SAM-5 5.14)
-abbrev pub untold_codes : List ℕ
-untold_codes = inquiry_code ∷ report_luns_code ∷ request_sense_code ∷ []
+abbrev pub codes_before_attentions : List ℕ
+codes_before_attentions = inquiry_code ∷ report_luns_code ∷ request_sense_code ∷ []
 
--- the unit attention condition of those posted, by nexus, that a request is answered with, if any (SAM-5 5.14)
+-- the condition of those posted, by nexus, for which a request ends with CHECK CONDITION, if any; REQUEST SENSE tells one too,
+-- as data (`sense_told`) (SAM-5 5.14)
 abbrev pub attention_told : List (List Attention) → Request → Option Attention
 attention_told attentions r =
-    if is_in (operation_code r) untold_codes then None else slice_get (slice_index_or attentions r.nexus []) 0
+    if is_in (operation_code r) codes_before_attentions then None else slice_get (slice_index_or attentions r.nexus []) 0
 
 -- the same by the conditions that a device has (SAM-5 5.14)
 abbrev pub attention_for : Device → Request → Option Attention

@@ -1,4 +1,4 @@
--- The direct device: a SCSI block device as a host sees it (SAM-5 4.6, logical unit; SBC-3 4). Words of the crates below:
+-- The direct device: a SCSI block device as a host sees it (SAM-5, logical unit; SBC-3 4). Words of the crates below:
 --
 -- drive            the ATA disk behind the device; a sector is one of its blocks, and a page is 512 bytes of memory, room for
 --                  one block
@@ -9,8 +9,8 @@
 --                  and leaves its write flaw
 -- written whole    all pairs are, in order (`whole`)
 -- written in part  each pair, in order, is written or left out (`Part`)
--- written back     a loss of power can leave only the block that a read gives (`settle`); a sector is sound when it can leave
---                  that one
+-- written back     a loss of power can leave only the block that a read gives (`settle`); a sector is sound where that block is
+--                  among those that a loss of power can leave
 -- ranged task      a READ, a WRITE or a queued UNMAP; all others are barriers
 -- conflict         of two tasks, where one is ORDERED or a barrier, or where their ranges meet and one writes
 -- eligible         of a task, where it conflicts with no earlier one
@@ -33,7 +33,7 @@ use Rattle.satl_line.specs.declared.entry.Entry.{Entry}
 -- what its drive says of itself. A task (`Entry`) has its nexus, tag, kind (ranged, and whether it writes, or a barrier) and
 -- attribute; its command; how many blocks it holds room for, of data-out or of data-in (`blocks`); its data-out (`body`; room
 -- for data-in is not seen here); its ranges; what a MODE SELECT changes (`modes`); and how many bytes of data-in its host
--- takes, where it says so (`expected`) (SAM-5 4.8, task set, and 5.14, unit attentions; SBC-3; glitches and lost links:
+-- takes, where it says so (`expected`) (SAM-5, task set and unit attention conditions; SBC-3; glitches and lost links:
 -- profile)
 pub record Device : Type 0 where
   pub cells : List Cell
@@ -50,7 +50,7 @@ pub record Device : Type 0 where
 abbrev pub is_called : ℕ → ℕ → Entry → Bool
 is_called nexus tag task = is_name nexus tag task.nexus (task.tag).0
 
--- the tasks but for one (SAM-5 4.8, task set)
+-- the tasks but for one (SAM-5, task set)
 abbrev pub without : Entry → List Entry → List Entry
 without task tasks = remove_first (is_called task.nexus (task.tag).0) tasks
 
@@ -70,7 +70,7 @@ attentions_of nexus s = slice_index_or s.attentions nexus []
 abbrev pub once_told : ℕ → Device → Device
 once_told nexus s = record s { attentions = slice_set s.attentions nexus (drop 1 (attentions_of nexus s)) }
 
--- the conditions of all nexuses once one of them was told its first, if it was (SAM-5 5.14)
-abbrev pub untold : Option Attention → ℕ → List (List Attention) → List (List Attention)
-untold None nexus attentions = attentions
-untold (Some what) nexus attentions = slice_set attentions nexus (drop 1 (slice_index_or attentions nexus []))
+-- the conditions of all nexuses, without the first of this nexus where one was told (SAM-5 5.14)
+abbrev pub attentions_left : Option Attention → ℕ → List (List Attention) → List (List Attention)
+attentions_left None nexus attentions = attentions
+attentions_left (Some what) nexus attentions = slice_set attentions nexus (drop 1 (slice_index_or attentions nexus []))

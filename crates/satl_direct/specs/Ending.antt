@@ -57,28 +57,31 @@ pub record IsTaskDone (after : Device) (t : Entry) (reply : Reply) (new : Device
   pub answer : reply ≡ task_reply t Good [] []
   pub stays : new ≡ record after { tasks = without t after.tasks }
 
+-- A `RangedTask` is a read, a write or a trim. Ranged tasks are of this form, and so are the barriers that trim: an UNMAP that
+-- is not queued and a WRITE SAME that unmaps. They read and change a surface (`Surface`): the sectors and the glitches; a
+-- medium (`Medium`) has also the settings, the power mode and the IDENTIFY data.
+
 -- the medium error of a task at a flawed address (SPC-4 4.5.6)
 abbrev pub medium_error : RangedTask → ℕ → Sense
 medium_error (ranged_read fua range) lba = read_error lba
 medium_error (ranged_write fua range blocks) lba = write_error lba
 medium_error (ranged_trim ranges) lba = write_error lba
 
--- the answer by the outcome on the medium (SAT-3 11)
+-- the answer by the outcome on the surface (SAT-3 11)
 abbrev pub outcome_reply : Device → Entry → RangedTask → Outcome → Reply
 outcome_reply s t ranged (ends_done blocks) = task_reply t Good [] blocks
 outcome_reply s t ranged (ends_flawed lba) = task_check s t (medium_error ranged lba)
 outcome_reply s t ranged ends_glitched = task_check s t crc_error
 
--- the sectors of the device and its glitches: what a READ, a WRITE or a trim ends by, and changes. A trim is an UNMAP, queued
--- or not, or a WRITE SAME that unmaps: all end alike, so a `RangedTask` stands for these barriers too (profile)
+-- the sectors of the device and its glitches (profile)
 abbrev pub surface_of : Device → Surface
 surface_of s = surface s.cells s.glitches
 
--- a READ, a WRITE or a trim ends by its outcome on the medium (`EndsAs`). Where a sector of a READ has a read flaw, or one of a
--- WRITE a write flaw, it fails with the lowest such address; a trim meets none. Else it is done, and the drive is active; or,
+-- a READ, a WRITE or a trim ends by its outcome on the surface (`EndsAs`). Where a sector of a READ has a read flaw, or one of
+-- a WRITE a write flaw, it fails with the lowest such address; a trim meets none. Else it is done, and the drive is active; or,
 -- where a glitch is left, it may end with a CRC error, which uses up one. At a flaw or a CRC error what it writes is written in
 -- part (SBC-3 5; of CRC errors: profile)
-pub record EndsOnMedium (ranged : RangedTask) (s : Device) (t : Entry) (reply : Reply) (new : Device) : Type 0 where
+pub record EndsOnSurface (ranged : RangedTask) (s : Device) (t : Entry) (reply : Reply) (new : Device) : Type 0 where
   pub outcome : Outcome
   pub ends : EndsAs s.modes.wce ranged outcome (surface_of s) (surface_of new)
   pub answer : reply ≡ outcome_reply s t ranged outcome
@@ -90,13 +93,13 @@ pub record EndsOnMedium (ranged : RangedTask) (s : Device) (t : Entry) (reply : 
   }
 
 -- a CRC error: what the task writes is written in part, and one glitch is used up (SPC-4 4.5.6; profile)
-pub record EndsGarbled (writes : List Pair) (s : Device) (t : Entry) (reply : Reply) (new : Device) : Type 0 where
+pub record EndsGlitched (writes : List Pair) (s : Device) (t : Entry) (reply : Reply) (new : Device) : Type 0 where
   pub answer : reply ≡ task_check s t crc_error
   pub part : Part s.cells writes new.cells
   pub one_glitch : new.glitches + 1 ≡ s.glitches
   pub stays : new ≡ record s { cells = new.cells; tasks = without t s.tasks; glitches = new.glitches }
 
--- the task leaves, and what it writes is written in part (SPC-4 4.5.6)
+-- the task leaves, and what it writes is written in part (profile)
 pub record IsPartlyWritten (writes : List Pair) (s : Device) (t : Entry) (new : Device) : Type 0 where
   pub part : Part s.cells writes new.cells
   pub stays : new ≡ record s { cells = new.cells; tasks = without t s.tasks }
@@ -113,7 +116,7 @@ same_pairs lba count (block ∷ blocks) cached = pairs_from lba (replicate count
 abbrev pub EndsInPieces : Range → Device → Entry → Reply → Device → Type 0
 EndsInPieces range s t reply new =
     let writes : List Pair = same_pairs range.lba range.count t.body s.modes.wce in
-    ((first_flaw flaws.Write s.cells range.lba (min piece range.count) ≡ None) × EndsGarbled writes s t reply new)
+    ((first_flaw flaws.Write s.cells range.lba (min piece range.count) ≡ None) × EndsGlitched writes s t reply new)
     ⊎ MatchOption (first_flaw flaws.Write s.cells range.lba range.count)
     (IsTaskDone (record s { cells = whole s.cells writes; active = true }) t reply new)
     (λ at. (reply ≡ task_check s t (write_error at)) × IsPartlyWritten writes s t new)
@@ -136,10 +139,11 @@ IsCompared range s t reply new =
 abbrev pub EndsCompared : Range → Device → Entry → Reply → Device → Type 0
 EndsCompared range s t reply new =
     MatchOption (first_flaw flaws.Read s.cells range.lba range.count)
-    (EndsGarbled [] s t reply new ⊎ IsCompared range s t reply new)
+    (EndsGlitched [] s t reply new ⊎ IsCompared range s t reply new)
     (λ at. IsChecked (read_error at) s t reply new)
 
--- every sector is written back (SBC-3, SYNCHRONIZE CACHE)
+-- every sector is written back, also those outside the range of the command (SBC-3, SYNCHRONIZE CACHE; that its range is not
+-- looked at: profile)
 abbrev pub settled : Device → Device
 settled s = record s { cells = map settle s.cells }
 
@@ -229,14 +233,15 @@ pub record EndsPassed (pass : Pass) (s : Device) (t : Entry) (reply : Reply) (ne
 abbrev pub EndsBy : Command → Device → Entry → Reply → Device → Type 0
 EndsBy (commands.ModeSelect ten size) s t reply new = IsTaskDone (after_select s t) t reply new
 EndsBy (commands.StartStop start no_flush) s t reply new = IsTaskDone (after_start_stop start no_flush s) t reply new
-EndsBy (commands.Read form lba count fua) s t reply new = EndsOnMedium (ranged_read fua (over lba count)) s t reply new
-EndsBy (commands.Write form lba count fua) s t reply new = EndsOnMedium (ranged_write fua (over lba count) t.body) s t reply new
+EndsBy (commands.Read form lba count fua) s t reply new = EndsOnSurface (ranged_read fua (over lba count)) s t reply new
+EndsBy (commands.Write form lba count fua) s t reply new =
+    EndsOnSurface (ranged_write fua (over lba count) t.body) s t reply new
 EndsBy (commands.Verify form lba count false) s t reply new = EndsVerified (over lba count) s t reply new
 EndsBy (commands.Verify form lba count true) s t reply new = EndsCompared (over lba count) s t reply new
 EndsBy (commands.Flush form lba count) s t reply new = IsTaskDone (settled s) t reply new
 EndsBy (commands.WriteSame form lba count false) s t reply new = EndsInPieces (over lba count) s t reply new
-EndsBy (commands.WriteSame form lba count true) s t reply new = EndsOnMedium (ranged_trim (over lba count ∷ [])) s t reply new
-EndsBy (commands.Unmap size) s t reply new = EndsOnMedium (ranged_trim t.ranges.items) s t reply new
+EndsBy (commands.WriteSame form lba count true) s t reply new = EndsOnSurface (ranged_trim (over lba count ∷ [])) s t reply new
+EndsBy (commands.Unmap size) s t reply new = EndsOnSurface (ranged_trim t.ranges.items) s t reply new
 EndsBy (commands.Pass cdb) s t reply new = EndsPassed (pass_of cdb) s t reply new
 EndsBy _ s t reply new = ⊥
 
@@ -245,5 +250,5 @@ EndsBy _ s t reply new = ⊥
 abbrev pub Ends : Device → Entry → Reply → Device → Type 0
 Ends s t reply new =
     MatchBool s.down (IsChecked link_lost s t reply new)
-    (MatchBool (not s.started && (asks t.command).starts) (IsChecked not_ready s t reply new)
+    (MatchBool (not s.started && (asks t.command).needs_started) (IsChecked not_ready s t reply new)
     (EndsBy t.command s t reply new))

@@ -5,7 +5,7 @@ use Rattle.satl_base.specs.declared.request.Manage.{Manage}
 use Rattle.satl_base.specs.declared.reply.Response.{Response}
 use Rattle.satl_base.specs.declared.reply.Response.TheVariants.{Complete, Rejected, Succeeded, IncorrectLun}
 use Rattle.satl_unit.specs.declared.attention.Attention.{Attention}
-use Rattle.satl_unit.specs.declared.attention.Attention.TheVariants as attentions
+use Rattle.satl_unit.specs.declared.attention.Attention.TheVariants as conditions
 use Rattle.satl_unit.specs.declared.function.Function.{Function}
 use Rattle.satl_unit.specs.declared.function.Function.TheVariants.{AbortTask, AbortTaskSet, ClearTaskSet, UnitReset, NexusReset, QueryTask, QueryTaskSet}
 use Rattle.satl_unit.specs.Functions.{function_of}
@@ -20,7 +20,7 @@ pub record Effect : Type 0 where
   pub attentions : List (List Attention)
   pub response : Response
 
--- whether there is a task that passes a test, as a response (SAM-5 7.8, 7.9; the code: profile)
+-- whether there is a task that passes a test, as a response (SAM-5 7.8, 7.9)
 abbrev pub found : Bool → Response
 found true = Succeeded
 found false = Complete
@@ -36,15 +36,15 @@ effect_of AbortTask m s = record { goes = is_called m.nexus (m.tag).0; attention
 effect_of AbortTaskSet m s = record { goes = is_of m.nexus; attentions = s.attentions; response = Complete }
 effect_of ClearTaskSet m s = record {
   goes = λ t. true;
-  attentions = post (λ nexus. not (nexus == m.nexus) && list_any (is_of nexus) s.tasks) attentions.Cleared s.attentions;
+  attentions = post (λ nexus. not (nexus == m.nexus) && list_any (is_of nexus) s.tasks) conditions.Cleared s.attentions;
   response = Complete;
 }
 effect_of UnitReset m s =
-    record { goes = λ t. true; attentions = post (λ nexus. true) attentions.UnitReset s.attentions; response = Complete }
+    record { goes = λ t. true; attentions = post (λ nexus. true) conditions.UnitReset s.attentions; response = Complete }
 effect_of NexusReset m s =
     record {
       goes = is_of m.nexus;
-      attentions = post (λ nexus. nexus == m.nexus) attentions.NexusLoss s.attentions;
+      attentions = post (λ nexus. nexus == m.nexus) conditions.NexusLoss s.attentions;
       response = Complete;
     }
 effect_of QueryTask m s =

@@ -49,12 +49,12 @@ pub record IsUnderWay (s : Device) (task : Entry) : Type 0 where
   pub up : s.down ≡ false
   pub eligible : IsEligible s.tasks task
 
--- a pair that may show, which is to be written before its task ends: a task under way writes it, and the unit is started or the
+-- a pair may show where it may be written before its task has ended: a task under way writes it, and the unit is started or the
 -- task is an ATA PASS-THROUGH (profile)
 pub record MayShow (s : Device) (pair : Pair) : Type 0 where
   pub task : Entry
   pub under_way : IsUnderWay s task
-  pub started : s.started || is_pass task.command ≡ true
+  pub started : (s.started || is_pass task.command) ≡ true
   pub among : IsIn pair (writes s task)
 
 -- a task that may make the drive active before it ends: one under way that goes over the medium, also on a stopped unit (ACS-3,

@@ -1,10 +1,10 @@
 -- Runs of the device over the frames of an input (profile). An event is one of these frames: REQUEST, MANAGE, TURN, BENCH or
--- END; a bench event is what a BENCH frame carries. An answer is a frame of the output: `replied` a REPLY, `managed` a MANAGED,
--- `ended` END.
+-- END; a bench event is what a BENCH frame carries. An answer of an event is a frame of the output: `replied` a REPLY,
+-- `managed` a MANAGED, `ended` END; an answer of a step is a reply.
 use Rattle.std.specs.Prelude.{◌≡◌, ◌≤◌, ℕ, suc, ◌+◌, max, min, not, ◌||◌, if◌then◌else◌, List, [], ◌∷◌, ◌++◌, map, length}
 use Rattle.std.specs.List.{filter, flat_map}
 use Rattle.satl_base.specs.declared.bench.BenchEvent.{BenchEvent}
-use Rattle.satl_base.specs.declared.bench.BenchEvent.TheVariants as events
+use Rattle.satl_base.specs.declared.bench.BenchEvent.TheVariants as bench
 use Rattle.satl_base.specs.declared.request.Manage.{Manage}
 use Rattle.satl_base.specs.declared.reply.Reply.{Reply}
 use Rattle.satl_base.specs.declared.reply.Response.{Response}
@@ -67,7 +67,7 @@ pub record ManagedAnswers (m : Manage) (s : Device) (answers : List Answer) (new
 -- what an event does: its answers, the device after it, and the greatest depth after it or after one of its turns. A request
 -- arrives, and the link may be lost after it; a task management function is carried out, and the link may be lost after it; so
 -- many turns are taken; something happens to the drive; at the end turns are taken until no task is left, and then the end is
--- told. Around each of these, and around each turn, there are quiet moves (profile)
+-- told. Around each arrival, function and bench event, and around each turn, there are quiet moves (profile)
 abbrev pub Does : Frame → Device → List Answer → Device → ℕ → Type 0
 Does (frames.Request r) s answers new deep =
     (replies : List Reply) × (answers ≡ map replied replies) × Around (MayLose (Arrives r)) s replies new × (deep ≡ depth new)
@@ -86,7 +86,7 @@ losses_of old new = if old.down then 0 else (if new.down then 1 else 0)
 
 -- how many losses of the link a bench event is: UNPLUG one, also where the link was lost before (profile)
 abbrev pub bench_losses : BenchEvent → ℕ
-bench_losses events.Unplug = 1
+bench_losses bench.Unplug = 1
 bench_losses _ = 0
 
 -- how often the link was lost in an event (profile)
@@ -121,20 +121,24 @@ CutTurns (frames.Turn n) count = count ≤ n
 CutTurns frames.End count = Unit {0}
 CutTurns _ count = ⊥
 
--- a run that is cut short in its last event, a TURN or END, once `count` turns of it were made: of a TURN at most as many as it
--- asks for, perhaps all; of END any number, and the end is not told (profile)
-pub record CutShort (first : Device) (events : List Frame) (losses : ℕ) (answers : List Answer) (last : Device) : Type 0 where
-  pub before : List Frame
-  pub event : Frame
-  pub events_are : events ≡ before ++ event ∷ []
-  pub earlier : List Answer
-  pub lost : ℕ
-  pub mid : Device
-  pub run : Run first before lost earlier mid
+-- an event that asks for turns was cut short between two of them, and one was taken at least (profile)
+pub record DoesShort (event : Frame) (s : Device) (answers : List Answer) (new : Device) : Type 0 where
   pub count : ℕ
+  pub some : 1 ≤ count
   pub asked : CutTurns event count
   pub replies : List Reply
   pub deep : ℕ
-  pub turns : TurnsOf count mid replies last deep
-  pub answer : answers ≡ earlier ++ map replied replies
-  pub losses_are : losses ≡ lost + losses_of mid last
+  pub turns : TurnsOf count s replies new deep
+  pub answer : answers ≡ map replied replies
+
+-- an event was carried out, or was cut short between two of its turns (profile)
+pub data DoesInPart (event : Frame) (s : Device) (answers : List Answer) (new : Device) : Type 0 where
+  does_all : (deep : ℕ) → Does event s answers new deep → DoesInPart event s answers new
+  does_some : DoesShort event s answers new → DoesInPart event s answers new
+
+-- a run, and one event more, which was carried out or cut short between two of its turns (profile)
+pub data RunInPart (first : Device) : List Frame → List (List Answer) → ℕ → Device → Type 0 where
+  last : {events : List Frame} {groups : List (List Answer)} {losses deep : ℕ} {s new : Device} (event : Frame)
+      (now : List Answer)
+      → RunDeep first events groups losses s deep → DoesInPart event s now new
+      → RunInPart first (events ++ event ∷ []) (groups ++ now ∷ []) (losses + losses_in event s new) new

@@ -72,8 +72,8 @@ pointer_to in_cdb None = extras.None
 pointer_to in_cdb (Some byte) = extras.Pointer in_cdb byte
 
 -- ILLEGAL REQUEST: a command or a list is refused, with its codes, and a pointer where a byte is at fault (SPC-4 4.5.6)
-abbrev pub refusal : Illegal → Sense
-refusal why = record { key = 0x5; asc = why.asc; ascq = why.ascq; extra = pointer_to why.in_cdb why.pointer }
+abbrev pub refusal_sense : Illegal → Sense
+refusal_sense why = record { key = 0x5; asc = why.asc; ascq = why.ascq; extra = pointer_to why.in_cdb why.pointer }
 
 -- sense data in the descriptor form or in the fixed form (SPC-4 4.5)
 abbrev pub sense_spelled : Bool → Sense → List ℕ

@@ -1,6 +1,7 @@
 -- What commands ask of the device, and the tasks that they become (SBC-3 5, SPC-4 6, SAT-3). `Illegal` is a refusal: its
--- additional sense codes, the byte at fault where there is one, and whether that byte is of the CDB or of the data-out. The
--- `form` of a command is the length of its CDB.
+-- additional sense codes, the byte at fault where there is one, and whether that byte is of the CDB or of the data-out; what is
+-- named with `fault` gives one, or none. The `form` of a command is the length of its CDB; `form_of` is the layout of an ATA
+-- PASS-THROUGH of 12 or 16 bytes.
 use Rattle.std.specs.Prelude.{ℕ, ◌*◌, ◌==◌, ◌&&◌, not, nat_lt, Bool, true, false, if◌then◌else◌, List, [], ◌∷◌, length, take, get_or, Option, Some, None, Result, Ok, Err}
 use Rattle.std.specs.List.{sum_by}
 use Rattle.satl_base.specs.declared.block.Block.{Block}
@@ -32,7 +33,7 @@ use Rattle.satl_line.specs.Tasks.{without_pages}
 abbrev pub pass_of : List ℕ → Pass
 pass_of cdb = pass_in (form_of cdb) cdb
 
--- what a command asks of the device: the refusal of its fields, where the table of commands has not judged them; the range that
+-- what a command asks of the device: the refusal of its fields, where the table of operation codes has not; the range that
 -- it goes over; the refusal of its list length; the bytes of data-out that it needs; the refusal of its data-out; the blocks
 -- that its task holds; what its task keeps of the data-out, which of a MODE SELECT and an UNMAP is nothing; the ranges of a
 -- READ, a WRITE or an UNMAP, and of no other command; the mode values that it sets; and whether it needs the unit started
@@ -47,7 +48,7 @@ pub record Asks : Type 0 where
   pub kept : List Block → List Block
   pub ranges : List Block → List Range
   pub change : List Block → Option ModeChange
-  pub starts : Bool
+  pub needs_started : Bool
 
 -- it goes over no block, has no data-out, holds nothing, and its task, if it has one, is carried out on a stopped unit too
 -- (profile)
@@ -62,12 +63,12 @@ nothing = record {
   kept = λ body. [];
   ranges = λ body. [];
   change = λ body. None;
-  starts = false;
+  needs_started = false;
 }
 
 -- it goes over a range, on a started unit (SBC-3 5)
 abbrev pub over_range : ℕ → ℕ → Asks
-over_range lba count = record nothing { range = over lba count; starts = true }
+over_range lba count = record nothing { range = over lba count; needs_started = true }
 
 -- a MODE SELECT: its list is judged, and what it sets is its change; of the list itself nothing is kept (SPC-4, MODE SELECT
 -- commands)
@@ -85,7 +86,7 @@ asks_unmap length = record nothing {
   needed = length;
   data_fault = λ identity modes body. if length == 0 then None else list_fault body length identity.capacity;
   ranges = ranges_of;
-  starts = true;
+  needs_started = true;
 }
 
 -- the refusal of the block of a WRITE SAME that unmaps: it has to be zeros (SBC-3, WRITE SAME commands; profile)
@@ -176,7 +177,7 @@ abbrev pub is_ordered : Attr → Bool
 is_ordered Simple = false
 is_ordered Ordered = true
 
--- the task that a request becomes, on a drive that queues trims or does not (SAM-5 4.8, task set)
+-- the task that a request becomes, on a drive that queues trims or does not (SAM-5, task set)
 abbrev pub task_for : Bool → Request → Command → Entry
 task_for queued_trim r command = record {
   nexus = r.nexus;
@@ -195,6 +196,6 @@ task_for queued_trim r command = record {
 abbrev pub task_without_pages : Bool → Request → Command → Entry
 task_without_pages queued_trim r command = without_pages (task_for queued_trim r command)
 
--- a task as the device sees it: with its data-out alone in its pages (SAM-5 4.8)
+-- a task as the device sees it: with its data-out alone in its pages (SAM-5, task set)
 abbrev pub task_of : Entry → Entry
 task_of entry = record entry { body = data_out_kept entry.command entry.body }

@@ -1,4 +1,4 @@
--- Which devices there can be (SAM-5 4.8; SBC-3; the figures: profile).
+-- Which devices there can be (SAM-5, task set; SBC-3; the figures: profile).
 use Rattle.std.specs.Prelude.{◌≡◌, ◌*◌, ◌≤◌, false, List, [], ◌∷◌, length}
 use Rattle.std.specs.List.{AllByRecursion, list_any}
 use Rattle.satl_base.specs.declared.request.Request.{Request}
@@ -21,7 +21,7 @@ AreOwn (t ∷ ts) = (list_any (is_called t.nexus (t.tag).0) ts ≡ false) × Are
 
 -- a task has come: at a device of this identity, with mode values that its drive can have, its request became this task, so its
 -- operation code, fields, range and data-out were good and the task set had a place. The request has pages for its data-out,
--- and its host, where it says how much data-in it takes, says at most 2,097,152 bytes (SAM-5 4.8; the figure: profile)
+-- and its host, where it says how much data-in it takes, says at most 2,097,152 bytes (SAM-5, task set; the figure: profile)
 pub record HasCome (identity : Identity) (t : Entry) : Type 0 where
   pub request : Request
   pub pages : request.data_len ≤ 512 * length request.body
@@ -34,7 +34,7 @@ pub record HasCome (identity : Identity) (t : Entry) : Type 0 where
 -- a device that there can be: what its drive says of itself is not refused; as many sound sectors as its capacity; at most 64
 -- tasks with at most 32,768 blocks, each with a nexus and tag of its own, and come by a request; mode values that its drive can
 -- have (WCE is 0 without a write cache, DRA is 1 without look-ahead); and for each of the four nexuses its conditions, each at
--- most once, in the order of report (SAM-5 4.8; profile)
+-- most once, in the order of report (SAM-5, task set; profile)
 pub record IsValid (s : Device) : Type 0 where
   pub identity : IsIdentity s.identity
   pub cells : length s.cells ≡ s.identity.capacity

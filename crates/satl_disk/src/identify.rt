@@ -1,5 +1,5 @@
 // The IDENTIFY DEVICE data of the modelled drive.
-ghost use Rattle.std.specs.Prelude.{◌≡◌, ◌≤◌, ◌<◌, ◌/◌, ◌%◌, ◌^◌};
+ghost use Rattle.std.specs.Prelude.{◌≡◌, ◌≤◌, ◌/◌, ◌%◌, ◌^◌};
 ghost use Rattle.satl_base.specs.Identify.{has_cache, has_look, trim_blocks};
 ghost use Rattle.satl_identify.specs.Data.{with_settings};
 ghost use Rattle.satl_disk.specs.Data.{fixed_words, drive_data, integrity_kept, retold, set_word, set_words};

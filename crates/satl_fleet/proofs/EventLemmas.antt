@@ -8,8 +8,7 @@ use Rattle.satl_base.proofs.ListsLemmas.{get-map}
 use Rattle.satl_io.specs.Causes.{RoseBy}
 use Rattle.satl_frame.specs.Output.{Answer}
 use Rattle.satl_frame.specs.declared.frames.Frame.{Frame}
-use Rattle.satl_direct.specs.Run.{Does, losses_in}
-use Rattle.satl_step.specs.Runs.{DoesInPart}
+use Rattle.satl_direct.specs.Run.{Does, DoesInPart, losses_in}
 use Rattle.satl_drive.specs.State.{DriveState}
 use Rattle.satl_core.specs.Layer.{Layer, view}
 use Rattle.satl_fleet.specs.Rounds.{DidAt, DidAtInPart, stage}

@@ -13,7 +13,7 @@ use Rattle.satl_direct.specs.Run.RunDeep.{start, step}
 use Rattle.satl_direct.proofs.Quieting.{quiet_none}
 use Rattle.satl_step.specs.Events.{unplugs_behind}
 use Rattle.satl_step.specs.Runs.{KeepsDeepest, tally_of, unplugs_in}
-use Rattle.satl_step.specs.Runs.RunInPart.{last}
+use Rattle.satl_direct.specs.Run.RunInPart.{last}
 use Rattle.satl_step.proofs.RunLemmas.{Unplugs, unplugs_one, unplugs_pushed}
 use Rattle.satl_fleet.specs.Output.{Round, frames_of, group_of, groups_for}
 use Rattle.satl_fleet.specs.Rounds.{EachDid, Stops, round_of}

@@ -7,8 +7,9 @@ use Rattle.satl_frame.specs.declared.frames.Frame.{Frame}
 use Rattle.satl_drive.specs.State.{DriveState}
 use Rattle.satl_core.specs.Layer.{Layer}
 use Rattle.satl_step.specs.Events.{Carried, Done, DoneInPart, IsTallied, IsWholeOf, Scene, scene_of}
-use Rattle.satl_step.specs.Runs.{DoesInPart, DoesShort, stand_of}
-use Rattle.satl_step.specs.Runs.DoesInPart.{does_all, does_some}
+use Rattle.satl_direct.specs.Run.{DoesInPart, DoesShort}
+use Rattle.satl_step.specs.Runs.{stand_of}
+use Rattle.satl_direct.specs.Run.DoesInPart.{does_all, does_some}
 use Rattle.satl_step.specs.Serving.{WholeOrInPart}
 use Rattle.satl_step.specs.Telling.{all_told}
 use Rattle.satl_step.proofs.RunLemmas.{asked_whole, tallied_whole}

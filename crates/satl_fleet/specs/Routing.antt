@@ -1,4 +1,4 @@
--- Which unit of a target a frame goes to, and as what (SAM-5 4.7.2; the routing of other LUNs: profile).
+-- Which unit of a target a frame goes to, and as what (SAM-5 4.6; the routing of other LUNs: profile).
 use Rattle.std.specs.Prelude.{ℕ, ◌==◌, ◌&&◌, nat_lt, Bool, List, [], ◌∷◌, drop, replicate, slice_index, if◌then◌else◌}
 use Rattle.std.specs.List.{flat_map}
 use Rattle.satl_base.specs.declared.request.Request.{Request}
@@ -11,11 +11,11 @@ use Rattle.satl_frame.specs.declared.frames.Frame.TheVariants as frames
 use Rattle.satl_fleet.specs.declared.routing.Route.{Route}
 use Rattle.satl_direct.specs.Arrival.{asks_for}
 
--- the LUN 0: eight bytes of zero (SAM-5 4.7.2)
+-- the LUN 0: eight bytes of zero (SAM-5 4.6)
 abbrev pub lun_0 : List ℕ
 lun_0 = replicate 8 0
 
--- whether a LUN of one level names one of so many units (SAM-5 4.7.2)
+-- whether a LUN of one level names one of so many units (SAM-5 4.6)
 abbrev pub names_unit : ℕ → List ℕ → Bool
 names_unit units lun = slice_index lun 0 == 0 && (nat_lt (slice_index lun 1) units && is_zeros (drop 2 lun))
 
@@ -30,7 +30,7 @@ route_to units lun =
 abbrev pub is_report : Request → Bool
 is_report r = asks_for report_luns_code r
 
--- whether it is I_T NEXUS RESET, which goes to every unit (SAM-5 7.7)
+-- whether it is I_T NEXUS RESET, which goes to every unit (SAM-5 7.6)
 abbrev pub is_for_all : Manage → Bool
 is_for_all m = m.function == nexus_reset_code
 

@@ -5,9 +5,9 @@ use Rattle.satl_frame.specs.declared.frames.Frame.{Frame}
 use Rattle.satl_frame.specs.Output.{Answer}
 use Rattle.satl_drive.specs.State.{DriveState}
 use Rattle.satl_direct.specs.Device.{Device}
-use Rattle.satl_direct.specs.Run.{RunDeep}
+use Rattle.satl_direct.specs.Run.{RunDeep, RunInPart}
 use Rattle.satl_serve.specs.Runs.{IsFirstDevice, IsLeftAs, KeepsQueue}
-use Rattle.satl_step.specs.Runs.{RunInPart, unplugs_in}
+use Rattle.satl_step.specs.Runs.{unplugs_in}
 use Rattle.satl_fleet.specs.Output.{Round, frames_of, groups_for}
 use Rattle.satl_fleet.specs.Routing.{project}
 use Rattle.satl_fleet.specs.Units.{UnitState, device_of}

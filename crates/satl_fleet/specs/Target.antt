@@ -8,10 +8,10 @@ use Rattle.satl_cdb.specs.Refusals.{invalid_field}
 use Rattle.satl_cdb.specs.PrimaryCommands.{luns_length}
 use Rattle.satl_sense.specs.Fixed.{fixed_form}
 use Rattle.satl_direct.specs.Arrival.{reply_to}
-use Rattle.satl_direct.specs.Senses.{refusal}
+use Rattle.satl_direct.specs.Senses.{refusal_sense}
 use Rattle.satl_frame.specs.DataPages.{padded_block}
 
--- the LUN of a unit (SAM-5 4.7.2)
+-- the LUN of a unit (SAM-5 4.6)
 abbrev pub lun_of : ℕ → List ℕ
 lun_of k = 0 ∷ k ∷ 0 ∷ 0 ∷ 0 ∷ 0 ∷ 0 ∷ 0 ∷ []
 
@@ -44,5 +44,5 @@ luns_told units r =
 -- profile)
 abbrev pub target_reply : ℕ → Request → Reply
 target_reply units r =
-    if nat_lt 2 (slice_index r.cdb 2) then reply_to r CheckCondition (fixed_form (refusal (invalid_field 2)))
+    if nat_lt 2 (slice_index r.cdb 2) then reply_to r CheckCondition (fixed_form (refusal_sense (invalid_field 2)))
     else luns_told units r

@@ -7,11 +7,11 @@ use Rattle.satl_frame.specs.declared.frames.Frame.{Frame}
 use Rattle.satl_frame.specs.Output.{Answer}
 use Rattle.satl_drive.specs.State.{DriveState}
 use Rattle.satl_direct.specs.Device.{Device}
-use Rattle.satl_direct.specs.Run.{Does, losses_in}
+use Rattle.satl_direct.specs.Run.{Does, DoesInPart, losses_in}
 use Rattle.satl_core.specs.Layer.{Layer, Tied, view}
 use Rattle.satl_core.specs.Tie.{TiesQueue}
 use Rattle.satl_step.specs.Events.{unplugs_behind}
-use Rattle.satl_step.specs.Runs.{DoesInPart, IsDeep, KeepsDeepest, tally_of}
+use Rattle.satl_step.specs.Runs.{IsDeep, KeepsDeepest, tally_of}
 use Rattle.satl_fleet.specs.Output.{told_under}
 
 -- a unit: a layer and its drive (profile)

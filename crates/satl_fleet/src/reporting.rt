@@ -4,7 +4,7 @@ ghost use Rattle.satl_base.specs.declared.reply.Scsi.TheVariants.{CheckCondition
 ghost use Rattle.satl_cdb.specs.Refusals.{invalid_field};
 ghost use Rattle.satl_sense.specs.Fixed.{fixed_form};
 ghost use Rattle.satl_direct.specs.Arrival.{reply_to};
-ghost use Rattle.satl_direct.specs.Senses.{refusal};
+ghost use Rattle.satl_direct.specs.Senses.{refusal_sense};
 ghost use Rattle.satl_frame.specs.Output.{IsWritable};
 ghost use Rattle.satl_frame.specs.Output.Answer.{replied};
 ghost use Rattle.satl_base.specs.Limits.{IsExpectable};
@@ -82,7 +82,7 @@ fn luns_told(units: u8, request: &Request, mut pages: Pages) -> Reply
 
 /// CHECK CONDITION, since SELECT REPORT is above 02h (SPC-4 6.33). The sense data is in the fixed form.
 fn refused(request: &Request) -> Reply
-    ensures { result ≡ reply_to request.now CheckCondition (fixed_form (refusal (invalid_field 2))) }
+    ensures { result ≡ reply_to request.now CheckCondition (fixed_form (refusal_sense (invalid_field 2))) }
 {
     let sense = Sense {
         key: 0x5,

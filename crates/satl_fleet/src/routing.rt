@@ -7,7 +7,7 @@ use satl_base::{Manage, Request};
 use satl_cdb::REPORT_LUNS;
 use satl_unit::NEXUS_RESET;
 
-/// LUN 0: eight bytes of zero (SAM-5 4.7.2).
+/// LUN 0: eight bytes of zero (SAM-5 4.6).
 pub const LUN_0: [u8; 8] = [0; 8];
 
 /// Where a frame goes: to this unit, at this LUN there (profile).
@@ -25,7 +25,7 @@ fn are_zero(bytes: &[u8]) -> bool
     bytes.iter().all(|byte| *byte == 0)
 }
 
-/// Whether a LUN of one level names one of so many units (SAM-5 4.7.2).
+/// Whether a LUN of one level names one of so many units (SAM-5 4.6).
 fn names_unit(units: u8, lun: &[u8; 8]) -> bool
     ensures { result ≡ names_unit units lun.now }
 {
@@ -58,7 +58,7 @@ pub fn is_report(request: &Request) -> bool
     request.cdb[0] == REPORT_LUNS
 }
 
-/// Whether it is I_T NEXUS RESET, which goes to every unit (SAM-5 7.7).
+/// Whether it is I_T NEXUS RESET, which goes to every unit (SAM-5 7.6).
 pub fn is_for_all(manage: &Manage) -> bool
     ensures { result ≡ is_for_all manage.now }
 {

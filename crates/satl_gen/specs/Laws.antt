@@ -1,5 +1,5 @@
 -- What holds of generated inputs (profile).
-use Rattle.std.specs.Prelude.{ℕ, ◌≤◌, ◌^◌, []}
+use Rattle.std.specs.Prelude.{ℕ, ◌≤◌, []}
 use Rattle.satl_base.specs.Limits.{input_limit}
 use Rattle.satl_frame.specs.Progress.{ReadsToEnd}
 use Rattle.satl_frame.specs.declared.frames.Version.{Version}

@@ -18,7 +18,7 @@ use Rattle.satl_line.specs.Ranged.RangedTask.{ranged_read, ranged_write}
 use Rattle.satl_line.specs.Ending.{EndsAs, Outcome, flaw_met}
 use Rattle.satl_line.specs.Ending.Outcome.{ends_done, ends_flawed, ends_glitched}
 use Rattle.satl_direct.specs.Device.{Device}
-use Rattle.satl_direct.specs.Ending.{Ends, EndsBy, EndsCompared, EndsOnMedium, EndsVerified, IsChecked, IsTaskDone, device_settled_if, outcome_reply, selected, settled, surface_of}
+use Rattle.satl_direct.specs.Ending.{Ends, EndsBy, EndsCompared, EndsOnSurface, EndsVerified, IsChecked, IsTaskDone, device_settled_if, outcome_reply, selected, settled, surface_of}
 use Rattle.satl_laws.specs.ArrivalOrder.{is_good, stops_or_starts, writes_plainly}
 use Rattle.satl_direct.specs.Quiet.{Quiet}
 use Rattle.satl_direct.specs.Senses.{link_lost, not_ready}
@@ -75,7 +75,7 @@ module _ (s new : Device) (t : Entry) (reply : Reply) (calm : IsCalm s) where
     pub good : is_good reply.status ≡ true
     pub after : IsCalm new
 
-  on_medium : (ranged : RangedTask) → flaw_met s.cells ranged ≡ None → EndsOnMedium ranged s t reply new → OnMedium
+  on_medium : (ranged : RangedTask) → flaw_met s.cells ranged ≡ None → EndsOnSurface ranged s t reply new → OnMedium
   on_medium ranged none e = go e.outcome e.ends e.answer
     where
       go : (o : Outcome) → EndsAs s.modes.wce ranged o (surface_of s) (surface_of new) → reply ≡ outcome_reply s t ranged o → OnMedium
@@ -125,5 +125,5 @@ module _ (s new : Device) (t : Entry) (reply : Reply) (calm : IsCalm s) where
   pub ends_calm : s.down ≡ false → writes_plainly (Ok t.command) ≡ true → stops_or_starts (Ok t.command) ≡ false → Ends s t reply new → EndsCalm t.command
   ends_calm up plain steady e =
       command_calm t.command plain steady
-      (MatchBool-at_false (IsChecked not_ready s t reply new) (EndsBy t.command s t reply new) (ap (λ b. not b && (asks t.command).starts) calm.started)
+      (MatchBool-at_false (IsChecked not_ready s t reply new) (EndsBy t.command s t reply new) (ap (λ b. not b && (asks t.command).needs_started) calm.started)
       (MatchBool-at_false (IsChecked link_lost s t reply new) _ up e))

@@ -18,7 +18,7 @@ use Rattle.satl_line.specs.Ending.{Outcome}
 use Rattle.satl_line.specs.Ending.Outcome.{ends_done}
 use Rattle.satl_direct.specs.Device.{Device, without}
 use Rattle.satl_direct.specs.Tasks.{asks}
-use Rattle.satl_direct.specs.Ending.{Ends, EndsBy, EndsCompared, EndsGarbled, EndsInPieces, EndsOnMedium, EndsPassed, EndsVerified, IsChecked, IsTaskDone, IsPartlyWritten, after_select, after_start_stop, outcome_reply, settled, device_settled_if, selected, task_check}
+use Rattle.satl_direct.specs.Ending.{Ends, EndsBy, EndsCompared, EndsGlitched, EndsInPieces, EndsOnSurface, EndsPassed, EndsVerified, IsChecked, IsTaskDone, IsPartlyWritten, after_select, after_start_stop, outcome_reply, settled, device_settled_if, selected, task_check}
 use Rattle.satl_direct.specs.Senses.{write_error}
 use Rattle.satl_direct.specs.Turn.{IsFirst, MayEnd}
 use Rattle.satl_laws.proofs.Cases.{by_bool, by_option}
@@ -59,14 +59,14 @@ module _ (s new : Device) (t : Entry) (reply : Reply) where
   outcome_tag ranged (ends_done blocks) = refl
   outcome_tag ranged _ = refl
 
-  medium_leaves : (ranged : RangedTask) → EndsOnMedium ranged s t reply new → Leaves s t reply new
+  medium_leaves : (ranged : RangedTask) → EndsOnSurface ranged s t reply new → Leaves s t reply new
   medium_leaves ranged e = record {
     tasks = ap (λ d. d.tasks) e.stays;
     nexus = ap (λ r. r.nexus) e.answer ∙ outcome_nexus ranged e.outcome;
     tag = ap (λ r. r.tag) e.answer ∙ outcome_tag ranged e.outcome;
   }
 
-  garbled_leaves : (writes : List Pair) → EndsGarbled writes s t reply new → Leaves s t reply new
+  garbled_leaves : (writes : List Pair) → EndsGlitched writes s t reply new → Leaves s t reply new
   garbled_leaves writes e = record { tasks = ap (λ d. d.tasks) e.stays; nexus = ap (λ r. r.nexus) e.answer; tag = ap (λ r. r.tag) e.answer }
 
   torn_leaves : (writes : List Pair) (lba : ℕ) → reply ≡ task_check s t (write_error lba) → IsPartlyWritten writes s t new → Leaves s t reply new
@@ -109,7 +109,7 @@ module _ (s new : Device) (t : Entry) (reply : Reply) where
   pub ends_leaves : Ends s t reply new → Leaves s t reply new
   ends_leaves =
       by_bool s.down (λ e. checked_leaves _ e)
-      (by_bool (not s.started && (asks t.command).starts) (λ e. checked_leaves _ e) (λ e. command_leaves t.command e))
+      (by_bool (not s.started && (asks t.command).needs_started) (λ e. checked_leaves _ e) (λ e. command_leaves t.command e))
 
 -- a task that may end was there
 pub eligible_in : (tasks : List Entry) (t : Entry) → IsEligible tasks t → IsIn t tasks

@@ -17,7 +17,7 @@ use Rattle.satl_line.specs.Ending.Outcome.{ends_done, ends_flawed}
 use Rattle.satl_line.specs.Ranged.{RangedTask, written_pairs}
 use Rattle.satl_line.specs.Ranged.RangedTask.{ranged_read, ranged_write, ranged_trim}
 use Rattle.satl_direct.specs.Device.{Device, without}
-use Rattle.satl_direct.specs.Ending.{Ends, EndsBy, EndsOnMedium, IsChecked, outcome_reply}
+use Rattle.satl_direct.specs.Ending.{Ends, EndsBy, EndsOnSurface, IsChecked, outcome_reply}
 use Rattle.satl_direct.specs.Senses.{link_lost, not_ready}
 use Rattle.satl_direct.specs.Tasks.{asks}
 use Rattle.satl_direct.specs.Turn.{IsFirst, MayEnd}
@@ -41,7 +41,7 @@ record HasEnd (c : Command) (s : Device) (t : Entry) : Type 0 where
 record HasEndOn (ranged : RangedTask) (s : Device) (t : Entry) : Type 0 where
   reply : Reply
   new : Device
-  ends : EndsOnMedium ranged s t reply new
+  ends : EndsOnSurface ranged s t reply new
 
 -- it is done, or it meets a flaw and has written nothing
 end_on : (ranged : RangedTask) (s : Device) (t : Entry) → HasEndOn ranged s t
@@ -100,7 +100,7 @@ module _ (s : Device) (earlier : List Entry) (t : Entry) (after : ComesAfter s e
         second_case (IsFirst s.tasks t) _ (s.down || not s.started) (ap (λ d. d || not s.started) up ∙ ap not started) (subst (λ ts. IsEligible ts t) (sym after.place) (eligible_after earlier after.later free))
 
     ends_at_work : (reply : Reply) (new : Device) → EndsBy t.command s t reply new → Ends s t reply new
-    ends_at_work reply new e = second_case (IsChecked link_lost s t reply new) _ s.down up (second_case (IsChecked not_ready s t reply new) _ (not s.started && (asks t.command).starts) (ap (λ b. not b && (asks t.command).starts) started) e)
+    ends_at_work reply new e = second_case (IsChecked link_lost s t reply new) _ s.down up (second_case (IsChecked not_ready s t reply new) _ (not s.started && (asks t.command).needs_started) (ap (λ b. not b && (asks t.command).needs_started) started) e)
 
     -- so it can end, if its command does
     can_end : MayEnd s t → (c : Command) → t.command ≡ c → HasEnd c s t → CanEnd s t

@@ -19,7 +19,7 @@ use Rattle.satl_line.specs.Ending.{EndsAs, Outcome}
 use Rattle.satl_line.specs.Ending.Outcome.{ends_done}
 use Rattle.satl_direct.specs.Device.{Device}
 use Rattle.satl_direct.specs.Tasks.{asks, pass_of}
-use Rattle.satl_direct.specs.Ending.{Ends, EndsBy, EndsCompared, EndsInPieces, EndsOnMedium, EndsPassed, EndsVerified, IsChecked, IsTaskDone, after_select, after_start_stop, device_medium, device_settled_if, selected, settled, surface_of}
+use Rattle.satl_direct.specs.Ending.{Ends, EndsBy, EndsCompared, EndsInPieces, EndsOnSurface, EndsPassed, EndsVerified, IsChecked, IsTaskDone, after_select, after_start_stop, device_medium, device_settled_if, selected, settled, surface_of}
 use Rattle.satl_direct.specs.Quiet.{written_by}
 use Rattle.satl_laws.specs.Untouched.{Spares}
 use Rattle.satl_laws.proofs.Cases.{by_bool, by_option}
@@ -68,7 +68,7 @@ module _ (s new : Device) (t : Entry) (reply : Reply) where
   ranged_steps ranged (ends_done blocks) e = all_of (written_pairs s.modes.wce ranged) s.cells new.cells e.written
   ranged_steps ranged _ e = parts e.written
 
-  on_medium : (c : Command) (ranged : RangedTask) → written_by c s t ≡ written_pairs s.modes.wce ranged → EndsOnMedium ranged s t reply new → Reaches c s t new
+  on_medium : (c : Command) (ranged : RangedTask) → written_by c s t ≡ written_pairs s.modes.wce ranged → EndsOnSurface ranged s t reply new → Reaches c s t new
   on_medium c ranged same e = record {
     pairs = written_pairs s.modes.wce ranged;
     spared = λ x own h. subst (Spares x) same h;
@@ -137,4 +137,4 @@ module _ (s new : Device) (t : Entry) (reply : Reply) where
   pub ends_reach : Ends s t reply new → Reaches t.command s t new
   ends_reach =
       by_bool s.down (λ e. checked t.command _ e)
-      (by_bool (not s.started && (asks t.command).starts) (λ e. checked t.command _ e) (λ e. by_command t.command e))
+      (by_bool (not s.started && (asks t.command).needs_started) (λ e. checked t.command _ e) (λ e. by_command t.command e))

@@ -14,7 +14,7 @@ use Rattle.satl_line.specs.Ending.{EndsAs, Outcome}
 use Rattle.satl_line.specs.Ending.Outcome.{ends_done}
 use Rattle.satl_direct.specs.Device.{Device}
 use Rattle.satl_direct.specs.Tasks.{asks}
-use Rattle.satl_direct.specs.Ending.{Ends, EndsBy, EndsOnMedium, device_settled_if, outcome_reply, selected, surface_of}
+use Rattle.satl_direct.specs.Ending.{Ends, EndsBy, EndsOnSurface, device_settled_if, outcome_reply, selected, surface_of}
 use Rattle.satl_direct.specs.Quiet.{written_by}
 use Rattle.satl_laws.specs.Durable.{secures}
 use Rattle.satl_laws.proofs.Cases.{by_bool}
@@ -32,7 +32,7 @@ module _ (x : ℕ) (s mid : Device) (t : Entry) (reply : Reply) (good : reply.st
 
   -- a WRITE past the cache that ends with GOOD
   past_single : (form_fua : Bool) (lba count : ℕ) → list_any (past_cache x) (pairs_from lba t.body (s.modes.wce && not form_fua)) ≡ true
-      → EndsOnMedium (ranged_write form_fua (over lba count) t.body) s t reply mid → IsSingle x mid.cells
+      → EndsOnSurface (ranged_write form_fua (over lba count) t.body) s t reply mid → IsSingle x mid.cells
   past_single fua lba count h e = by_outcome e.outcome e.ends (ap (λ r. r.status) e.answer)
     where
       by_outcome : (o : Outcome) → EndsAs s.modes.wce (ranged_write fua (over lba count) t.body) o (surface_of s) (surface_of mid)
@@ -52,4 +52,4 @@ module _ (x : ℕ) (s mid : Device) (t : Entry) (reply : Reply) (good : reply.st
   pub secured : secures t.command s t x ≡ true → Ends s t reply mid → IsSingle x mid.cells
   secured h =
       by_bool s.down (λ e. not_good (ap (λ r. r.status) e.answer))
-      (by_bool (not s.started && (asks t.command).starts) (λ e. not_good (ap (λ r. r.status) e.answer)) (λ e. secured_by t.command refl h e))
+      (by_bool (not s.started && (asks t.command).needs_started) (λ e. not_good (ap (λ r. r.status) e.answer)) (λ e. secured_by t.command refl h e))

@@ -73,7 +73,7 @@ module _ (s new : Device) (t : Entry) (reply : Reply) where
     pub ends_read : gives t.command ≡ true → is_good reply.status ≡ true → reply.body ≡ nows s.cells (range_of t.command).lba (range_of t.command).count
     ends_read g good =
         by_bool s.down (λ k. bad (checked_writes t.command _ k).0)
-        (by_bool (not s.started && (asks t.command).starts) (λ k. bad (checked_writes t.command _ k).0) (λ k. read_ends t.command g good k)) e
+        (by_bool (not s.started && (asks t.command).needs_started) (λ k. bad (checked_writes t.command _ k).0) (λ k. read_ends t.command g good k)) e
       where
         bad : is_good reply.status ≡ false → reply.body ≡ nows s.cells (range_of t.command).lba (range_of t.command).count
         bad h = let no : true ≡ false = sym good ∙ h in absurd cc
@@ -103,7 +103,7 @@ module _ (s new : Device) (t : Entry) (reply : Reply) where
     write_changes : (x : ℕ) → x < length s.cells → brings t.command ≡ true → Changed x
     write_changes x inside b =
         by_bool s.down (λ k. checked k)
-        (by_bool (not s.started && (asks t.command).starts) (λ k. checked k) (λ k. written (write_ends t.command b k))) e
+        (by_bool (not s.started && (asks t.command).needs_started) (λ k. checked k) (λ k. written (write_ends t.command b k))) e
       where
         transfers : Transfers n t
         transfers = fits (ap (λ q. gives t.command || q) b ∙ or-true (gives t.command))

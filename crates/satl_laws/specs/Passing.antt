@@ -52,7 +52,7 @@ goes_with_others queued_trim command = false
 abbrev pub goes_alone : Device → Entry → Bool
 goes_alone s t = t.ordered || not (goes_with_others s.identity.queued_trim t.command)
 
--- a task of a device that there can be, and all tasks that came before it and still wait (SAM-5 4.8, task set)
+-- a task of a device that there can be, and all tasks that came before it and still wait (SAM-5, task set)
 pub record ComesAfter (s : Device) (earlier : List Entry) (t : Entry) : Type 0 where
   pub valid : IsValid s
   pub later : List Entry

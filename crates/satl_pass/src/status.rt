@@ -1,6 +1,6 @@
 // How the end of an ATA command is told.
 
-ghost use Rattle.std.specs.Prelude.{◌≡◌, ◌↔◌, IsNone, IsFalse, false};
+ghost use Rattle.std.specs.Prelude.{◌≡◌, ◌↔◌, IsNone, IsFalse};
 ghost use Rattle.satl_pass.specs.Status.{ata_return, error_row, error_sense, error_sense_at, status_sense};
 ghost use Rattle.satl_regs.specs.Effects.{is_bad};
 

@@ -1,5 +1,5 @@
 -- Reads and writes that wait.
-use Rattle.std.proofs.Common.{inl, refl, arith, true, false, [], ◌∷◌}
+use Rattle.std.proofs.Common.{inl, refl, subst, arith, true, false, [], ◌∷◌}
 use Rattle.satl_base.specs.declared.reply.Response.TheVariants.{Complete}
 use Rattle.satl_base.specs.Moves.{stay, write}
 use Rattle.satl_base.specs.Blocks.{over}
@@ -14,6 +14,9 @@ use Rattle.satl_frame.specs.declared.frames.Frame.TheVariants.{Turn}
 use Rattle.satl_line.specs.Ranged.RangedTask.{ranged_read}
 use Rattle.satl_direct.specs.Device.{Device}
 use Rattle.satl_direct.specs.Quiet.{Quiet}
+use Rattle.satl_direct.specs.Run.{RunDeep}
+use Rattle.satl_direct.specs.Run.DoesInPart.{does_some}
+use Rattle.satl_direct.specs.Run.RunInPart.{last}
 use Rattle.satl_direct.specs.Run.TurnsOf.{none}
 use Rattle.satl_scenarios.specs.Scenario.{CanBeCut, CanHappen, Scenario, events_of, silent}
 use Rattle.satl_scenarios.specs.Waiting.{aborted_half_done, overlapped_reads, full, one_too_many, one_turn_left}
@@ -87,19 +90,14 @@ both_arrive =
     ends_here))
 
 pub run_cut : CanBeCut one_turn_left
-run_cut = record {
-  before = events_of arrived;
-  event = Turn 3;
-  events_are = refl;
-  earlier = [];
-  lost = 0;
-  mid = arrived.last;
-  run = both_arrive.run;
-  count = 1;
-  asked = omega arith;
-  replies = _;
-  deep = _;
-  turns = turn_more one_turn_left.last none (ended low_read (inl refl) (done (ranged_read false (over 0 1)) arrived.last low_read refl));
-  answer = refl;
-  losses_are = refl;
-}
+run_cut =
+    last (Turn 3) _ (subst (λ groups. RunDeep arrived.first (events_of arrived) groups 0 arrived.last _) both_arrive.groups both_arrive.run.run)
+    (does_some (record {
+      count = 1;
+      some = omega arith;
+      asked = omega arith;
+      replies = _;
+      deep = _;
+      turns = turn_more one_turn_left.last none (ended low_read (inl refl) (done (ranged_read false (over 0 1)) arrived.last low_read refl));
+      answer = refl;
+    }))

@@ -15,7 +15,7 @@ use Rattle.satl_scenarios.specs.Devices.{never_written, zeros}
 use Rattle.satl_scenarios.specs.Replies.{check_condition, good, reply, sense}
 use Rattle.satl_scenarios.specs.Requests.{cdb_10, read_10, request, task}
 
--- another logical unit (SAM-5 4.6.4)
+-- another logical unit (SAM-5 4.6)
 abbrev pub unit_1 : List ℕ
 unit_1 = 0 ∷ 1 ∷ replicate 6 0
 
@@ -97,7 +97,7 @@ no_block_at_rest = record {
 abbrev pub long_read : List ℕ
 long_read = 0x85 ∷ 0x0D ∷ 0x0E ∷ 0 ∷ 0 ∷ 0x10 ∷ 0 ∷ 0 ∷ 0 ∷ 0 ∷ 0 ∷ 0 ∷ 0 ∷ 0x40 ∷ 0x25 ∷ 0 ∷ []
 
--- eight of these hold as many blocks as a task set may (SAM-5 4.8; the figure: profile)
+-- eight of these hold as many blocks as a task set may (SAM-5, task set; the figure: profile)
 abbrev pub full_of_blocks : Device
 full_of_blocks = record (never_written 2) { tasks = map (λ tag. task tag (Pass long_read) []) (places 1 8 (λ tag. tag)) }
 

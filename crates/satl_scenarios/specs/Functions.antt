@@ -28,7 +28,7 @@ queried = record {
   last = record (never_written 2) { tasks = task 1 (Read Ten 0 1 false) [] ∷ [] };
 }
 
--- CLEAR TASK SET by nexus 1: the task of nexus 0 goes without an answer, and its next command tells it so (SAM-5 7.4)
+-- CLEAR TASK SET by nexus 1: the task of nexus 0 goes without an answer, and its next command tells it so (SAM-5 7.5)
 abbrev pub tasks_cleared : Scenario
 tasks_cleared = record {
   first = never_written 2;

@@ -41,7 +41,7 @@ write_10 tag lba blocks = frames.Request (request tag (cdb_10 0x2A lba (length b
 abbrev pub manage : ℕ → ℕ → ℕ → Manage
 manage nexus function tag = record { nexus = nexus; function = function; lun = replicate 8 0; tag = record { 0 = tag } }
 
--- the task that a command of nexus 0 becomes (SAM-5 4.8)
+-- the task that a command of nexus 0 becomes (SAM-5, task set)
 abbrev pub task : ℕ → Command → List Block → Entry
 task tag command body = task_for true (request tag [] body) command
 

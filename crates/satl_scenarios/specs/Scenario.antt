@@ -3,7 +3,7 @@ use Rattle.std.specs.Prelude.{◌≡◌, ℕ, List, [], map}
 use Rattle.satl_frame.specs.declared.frames.Frame.{Frame}
 use Rattle.satl_frame.specs.Output.{Answer}
 use Rattle.satl_direct.specs.Device.{Device}
-use Rattle.satl_direct.specs.Run.{CutShort, Run, joined}
+use Rattle.satl_direct.specs.Run.{Run, RunInPart, joined}
 
 -- an event, and its answers
 pub record Step : Type 0 where
@@ -39,6 +39,7 @@ pub record CanHappen (scenario : Scenario) : Type 0 where
   pub groups : run.groups ≡ groups_of scenario
   pub depth : run.deep ≡ scenario.depth
 
--- the scenario is a run whose last event is cut short
+-- the scenario is a run, but that its last event may be cut short between two of its turns
 abbrev pub CanBeCut : Scenario → Type 0
-CanBeCut scenario = CutShort scenario.first (events_of scenario) scenario.losses (joined (groups_of scenario)) scenario.last
+CanBeCut scenario =
+    RunInPart scenario.first (events_of scenario) (groups_of scenario) scenario.losses scenario.last

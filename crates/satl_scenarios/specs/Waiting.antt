@@ -42,7 +42,7 @@ overlapped_reads = record {
   last = never_written 2;
 }
 
--- as many reads as a task set holds, with the tags 1 to 64 (SAM-5 4.8; the figure: profile)
+-- as many reads as a task set holds, with the tags 1 to 64 (SAM-5, task set; the figure: profile)
 abbrev pub full : Device
 full = record (never_written 2) { tasks = map (λ tag. task tag (commands.Read Ten 0 1 false) []) (places 1 64 (λ tag. tag)) }
 

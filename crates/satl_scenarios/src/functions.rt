@@ -14,7 +14,7 @@ pub fn tasks_queried()
     ensures { CanHappen queried }
 {}
 
-/// A nexus is told that another cleared its tasks (SAM-5 7.4).
+/// A nexus is told that another cleared its tasks (SAM-5 7.5).
 pub fn tasks_cleared_by_another_nexus()
     ensures { CanHappen tasks_cleared }
 {}

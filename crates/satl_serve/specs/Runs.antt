@@ -1,5 +1,5 @@
 -- What serving an input does: a run of the device over its frames, whose answers are written (profile).
-use Rattle.std.specs.Prelude.{◌≡◌, ◌⊎◌, ℕ, ◌+◌, ◌≤◌, ◌^◌, true, false, List, [], ◌∷◌, ◌++◌, not, replicate, Option, Ok}
+use Rattle.std.specs.Prelude.{◌≡◌, ◌⊎◌, ℕ, ◌+◌, ◌≤◌, true, false, List, [], ◌∷◌, ◌++◌, not, replicate, Option, Ok}
 use Rattle.satl_base.specs.Losses.{Loses}
 use Rattle.satl_io.specs.Known.{Wrote, WrotePart}
 use Rattle.satl_identify.specs.Refusals.{identity_of}

@@ -1,5 +1,5 @@
 // An input is served.
-ghost use Rattle.std.specs.Prelude.{◌≡◌, ◌≤◌, [], None, IfErr, IfOk};
+ghost use Rattle.std.specs.Prelude.{◌≡◌, ◌≤◌, [], IfErr, IfOk};
 ghost use Rattle.satl_base.specs.Limits.{input_limit};
 ghost use Rattle.satl_io.specs.Causes.{Rose};
 ghost use Rattle.satl_barrier.specs.Leaving.{IsFree};

@@ -9,13 +9,13 @@ use Rattle.satl_frame.specs.declared.frames.Frame.TheVariants as frames
 use Rattle.satl_frame.specs.Output.{Answer}
 use Rattle.satl_frame.specs.Pulls.{cut_to}
 use Rattle.satl_direct.specs.Device.{Device}
-use Rattle.satl_direct.specs.Run.{CutTurns, losses_in}
+use Rattle.satl_direct.specs.Run.{CutTurns, DoesInPart, DoesShort, losses_in}
 use Rattle.satl_direct.specs.Run.RunDeep.{start, step}
 use Rattle.satl_direct.proofs.Quieting.{quiet_none}
 use Rattle.satl_step.specs.Events.{Carried, IsTallied, IsWholeOf, unplugs_behind}
-use Rattle.satl_step.specs.Runs.{AreCounted, DoesInPart, DoesShort, KeepsDeepest, RunCutSoFar, RunSoFar, Stand, is_manage, is_request, is_unplug, unplugs_in}
-use Rattle.satl_step.specs.Runs.DoesInPart.{does_all, does_some}
-use Rattle.satl_step.specs.Runs.RunInPart.{last}
+use Rattle.satl_step.specs.Runs.{AreCounted, KeepsDeepest, RunCutSoFar, RunSoFar, Stand, is_manage, is_request, is_unplug, unplugs_in}
+use Rattle.satl_direct.specs.Run.DoesInPart.{does_all, does_some}
+use Rattle.satl_direct.specs.Run.RunInPart.{last}
 
 -- ---- what an event counts of a whole one
 

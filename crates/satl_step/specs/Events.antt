@@ -8,12 +8,12 @@ use Rattle.satl_frame.specs.Output.{Answer}
 use Rattle.satl_frame.specs.Output.Answer.{replied}
 use Rattle.satl_frame.specs.Pulls.{cut_to}
 use Rattle.satl_drive.specs.State.{DriveState}
-use Rattle.satl_direct.specs.Run.{Does, TurnsOf, losses_in}
+use Rattle.satl_direct.specs.Run.{Does, DoesShort, TurnsOf, losses_in}
 use Rattle.satl_core.specs.Benching.{unplugs_after}
 use Rattle.satl_core.specs.Layer.{Layer}
 use Rattle.satl_core.specs.Submitting.{CanSubmit}
 use Rattle.satl_core.specs.Turning.{turn_calls}
-use Rattle.satl_step.specs.Runs.{DoesShort, IsDeep, KeepsDeepest, Stand, calls_allowed, stand_of}
+use Rattle.satl_step.specs.Runs.{IsDeep, KeepsDeepest, Stand, calls_allowed, stand_of}
 use Rattle.satl_step.specs.Telling.{IsTold, IsToldInPart, Telling}
 
 -- where a run stands, and who tells its answers (profile)

@@ -1,17 +1,15 @@
 -- Runs as far as they came, and what was counted meanwhile (profile).
-use Rattle.std.specs.Prelude.{◌≡◌, ℕ, ◌+◌, ◌*◌, ◌≤◌, Bool, true, false, List, [], ◌∷◌, ◌++◌, length, map}
+use Rattle.std.specs.Prelude.{ℕ, ◌+◌, ◌*◌, ◌≤◌, Bool, true, false, List, length}
 use Rattle.satl_base.specs.declared.bench.BenchEvent.{BenchEvent}
 use Rattle.satl_base.specs.declared.bench.BenchEvent.TheVariants as events
-use Rattle.satl_base.specs.declared.reply.Reply.{Reply}
 use Rattle.satl_base.specs.Lists.{how_many}
 use Rattle.satl_io.specs.Causes.{RoseBy}
 use Rattle.satl_frame.specs.declared.frames.Frame.{Frame}
 use Rattle.satl_frame.specs.declared.frames.Frame.TheVariants as frames
 use Rattle.satl_frame.specs.Output.{Answer}
-use Rattle.satl_frame.specs.Output.Answer.{replied}
 use Rattle.satl_drive.specs.State.{DriveState}
 use Rattle.satl_direct.specs.Device.{Device}
-use Rattle.satl_direct.specs.Run.{CutTurns, Does, RunDeep, TurnsOf, losses_in}
+use Rattle.satl_direct.specs.Run.{RunDeep, RunInPart}
 use Rattle.satl_core.specs.Layer.{Layer, view}
 use Rattle.satl_core.specs.Turning.{off_calls, turn_calls}
 
@@ -98,28 +96,6 @@ pub record RunSoFar (before after : Stand) (events : List Frame) (groups : List 
   pub run : RunDeep before.device events groups losses after.device deep
   pub covered : IsDeep before.tally → deep ≤ after.tally.deepest
   pub counted : AreCounted events losses before after
-
--- an event that asks for turns was cut short between two of them, and one was taken at least (profile)
-pub record DoesShort (event : Frame) (s : Device) (answers : List Answer) (new : Device) : Type 0 where
-  pub count : ℕ
-  pub some : 1 ≤ count
-  pub asked : CutTurns event count
-  pub replies : List Reply
-  pub deep : ℕ
-  pub turns : TurnsOf count s replies new deep
-  pub answer : answers ≡ map replied replies
-
--- an event was carried out, or was cut short between two of its turns (profile)
-pub data DoesInPart (event : Frame) (s : Device) (answers : List Answer) (new : Device) : Type 0 where
-  does_all : (deep : ℕ) → Does event s answers new deep → DoesInPart event s answers new
-  does_some : DoesShort event s answers new → DoesInPart event s answers new
-
--- a run, and one event more, which was carried out or cut short between two of its turns (profile)
-pub data RunInPart (first : Device) : List Frame → List (List Answer) → ℕ → Device → Type 0 where
-  last : {events : List Frame} {groups : List (List Answer)} {losses deep : ℕ} {s new : Device} (event : Frame)
-      (now : List Answer)
-      → RunDeep first events groups losses s deep → DoesInPart event s now new
-      → RunInPart first (events ++ event ∷ []) (groups ++ now ∷ []) (losses + losses_in event s new) new
 
 -- events were carried out one after the other, and the last one perhaps in part, and were counted: a group of answers for each
 -- (profile)

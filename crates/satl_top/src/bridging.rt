@@ -1,5 +1,4 @@
 // A USB disk bridge.
-ghost use Rattle.std.specs.Prelude.{◌≡◌, [], None};
 ghost use Rattle.satl_base.specs.Limits.{input_limit};
 ghost use Rattle.satl_barrier.specs.Leaving.{IsFree};
 ghost use Rattle.satl_serve.specs.Moments.{moment, sink_state, source_state};

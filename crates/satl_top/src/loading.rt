@@ -1,5 +1,5 @@
 // A load: a generated input is served, and its totals are written.
-ghost use Rattle.std.specs.Prelude.{◌≡◌, ◌≤◌, [], IfErr, IfOk, None};
+ghost use Rattle.std.specs.Prelude.{◌≤◌, IfErr, IfOk, None};
 ghost use Rattle.std.specs.Result.{IsErrAnd};
 ghost use Rattle.satl_base.specs.Limits.{input_limit};
 ghost use Rattle.satl_identify.specs.declared.identity.IdentityFault.{IdentityFault};

@@ -1,5 +1,5 @@
 // The top call.
-ghost use Rattle.std.specs.Prelude.{◌≡◌, ◌⊎◌, [], None, map, true};
+ghost use Rattle.std.specs.Prelude.{◌≡◌, ◌⊎◌, map, true};
 ghost use Rattle.std.specs.Rc.{rc_str_bytes};
 ghost use Rattle.satl_base.specs.Limits.{input_limit};
 ghost use Rattle.clap.specs.Words.{takes};

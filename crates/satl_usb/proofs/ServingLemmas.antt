@@ -15,14 +15,14 @@ use Rattle.satl_direct.specs.Quiet.{Around}
 use Rattle.satl_direct.specs.Tasks.{task_of}
 use Rattle.satl_direct.specs.Turn.{Turn}
 use Rattle.satl_direct.specs.Turn.Turn.{idle}
-use Rattle.satl_direct.specs.Run.{MayLose, TurnsOf, depth}
+use Rattle.satl_direct.specs.Run.{DoesShort, MayLose, TurnsOf, depth}
 use Rattle.satl_direct.specs.Run.TurnsOf.{none, more}
 use Rattle.satl_direct.proofs.Quieting.{quiet_none}
 use Rattle.satl_laws.proofs.OneReply.{Half, around_half, one_reply}
 use Rattle.satl_laws.proofs.OneReply.Half.{given, held}
 use Rattle.satl_core.proofs.CountedLemmas.{counted_same}
 use Rattle.satl_step.specs.Events.{Carried, Done, DoneInPart, IsTallied, Scene}
-use Rattle.satl_step.specs.Runs.{DoesShort, Stand}
+use Rattle.satl_step.specs.Runs.{Stand}
 use Rattle.satl_step.specs.Telling.{IsTold, IsToldInPart}
 use Rattle.satl_step.specs.Serving.{WholeOrInPart}
 use Rattle.satl_step.proofs.EventLemmas.{carried_turns, map-append, one_turn}

@@ -1,6 +1,6 @@
 -- The input of the bridge: commands as they stand on the wire, each with the data that is sent with it (USB Mass Storage Class,
 -- Bulk-Only Transport 1.0, 5.3).
-use Rattle.std.specs.Prelude.{◌≡◌, ℕ, ◌+◌, ◌<◌, ◌≤◌, ◌^◌, List, [], ◌∷◌, ◌++◌, length, take, Option, Some, IfSome, if◌then◌else◌}
+use Rattle.std.specs.Prelude.{◌≡◌, ℕ, ◌+◌, ◌<◌, ◌≤◌, List, [], ◌∷◌, ◌++◌, length, take, Option, Some, IfSome, if◌then◌else◌}
 use Rattle.std.specs.List.{flat_map}
 use Rattle.satl_io.specs.Known.{Took}
 use Rattle.satl_bot.specs.declared.command.Cbw.{Cbw}

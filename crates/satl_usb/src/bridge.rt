@@ -1,6 +1,5 @@
 // An input of items is bridged.
-ghost use Rattle.std.specs.Prelude.{◌≡◌, ◌≤◌, List, [], None, Some, IfErr, OnErr, OnOk, MatchResult};
-ghost use Rattle.std.specs.Io.KnownBytes.{IsAtEnd};
+ghost use Rattle.std.specs.Prelude.{◌≡◌, List, [], None, Some, IfErr, OnOk, MatchResult};
 ghost use Rattle.std.specs.Result.{IsErrAnd};
 ghost use Rattle.satl_base.specs.Limits.{input_limit};
 ghost use Rattle.satl_identify.specs.declared.identity.IdentityFault.{IdentityFault};
