@@ -6,7 +6,7 @@ ghost use Rattle.satl_direct.specs.Tasks.{asks, held_blocks, needed, range_of};
 ghost use Rattle.satl_asks.specs.Commands.{CanPass, HasList, IsList};
 
 use arrayvec::ArrayVec;
-use satl_base::{ModeChange, Pages, Range};
+use satl_base::{MOST_RANGES, ModeChange, Pages, Range};
 use satl_cdb::{Command, Illegal, read_unmap_list};
 use satl_mode::select_change;
 use satl_pass::{Pass, pass_of, read_pass};
@@ -52,7 +52,12 @@ fn page_count(length: u32) -> u32
 
 /// Puts the ranges that the task of a command reads, writes or trims in place of others: that of a READ or a WRITE, and those
 /// of the list of an UNMAP, which has no fault on a medium of this capacity (SBC-3 5.28).
-pub fn put_ranges(command: &Command, body: &Pages, capacity: u64, ranges: &mut ArrayVec<Range, 64>)
+pub fn put_ranges(
+    command: &Command,
+    body: &Pages,
+    capacity: u64,
+    ranges: &mut ArrayVec<Range, MOST_RANGES>,
+)
     requires list { HasList command.now body.now capacity }
     ensures { ranges.new.items ≡ (asks command.now).ranges body.now }
 {
@@ -68,7 +73,7 @@ pub fn put_ranges(command: &Command, body: &Pages, capacity: u64, ranges: &mut A
 
 /// Puts the ranges of a list in place of others. A function of its own, as only an UNMAP has to pay for room for a list.
 #[inline(never)]
-fn put_list(list: &Pages, length: u16, capacity: u64, ranges: &mut ArrayVec<Range, 64>)
+fn put_list(list: &Pages, length: u16, capacity: u64, ranges: &mut ArrayVec<Range, MOST_RANGES>)
     requires { IsList list.now length capacity }
     ensures { ranges.new.items ≡ unmap.ranges_of list.now }
 {
@@ -76,7 +81,7 @@ fn put_list(list: &Pages, length: u16, capacity: u64, ranges: &mut ArrayVec<Rang
 }
 
 /// The ranges of the list of an UNMAP that has no fault on a medium of this capacity (SBC-3 5.28).
-pub fn listed_ranges(list: &Pages, length: u16, capacity: u64) -> ArrayVec<Range, 64>
+pub fn listed_ranges(list: &Pages, length: u16, capacity: u64) -> ArrayVec<Range, MOST_RANGES>
     requires { IsList list.now length capacity }
     ensures { result.items ≡ unmap.ranges_of list.now }
 {

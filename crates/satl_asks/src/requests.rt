@@ -5,7 +5,7 @@ ghost use Rattle.satl_direct.specs.Arrival.{is_unit_0, codes_before_attentions};
 ghost use Rattle.satl_direct.specs.Tasks.{is_ordered};
 ghost use Rattle.satl_asks.specs.Requests.{is_for_unit};
 
-use satl_base::{Attr, Range, Request};
+use satl_base::{Attr, Request};
 use satl_cdb::{INQUIRY, REPORT_LUNS, REQUEST_SENSE};
 
 /// Whether a command of this operation code is carried out before a unit attention is told: INQUIRY, REPORT LUNS and REQUEST
@@ -38,11 +38,4 @@ pub fn is_ordered(attr: Attr) -> bool
         Attr::Simple => false,
         Attr::Ordered => true,
     }
-}
-
-/// Whether a range goes past the last sector.
-pub fn is_outside(range: Range, capacity: u64) -> bool
-    ensures { result ≡ nat_lt capacity (range.lba + range.count) }
-{
-    u64::from(range.count) > capacity || range.lba > capacity - u64::from(range.count)
 }

@@ -56,22 +56,6 @@ fn lists_have_their_header_or_nothing(rt: HostRuntime) {
 }
 
 #[test]
-fn the_last_sector_is_inside(rt: HostRuntime) {
-    assert!(rt; !is_outside(Range { lba: 7, count: 1 }, 8));
-    assert!(rt; !is_outside(Range { lba: 8, count: 0 }, 8));
-    assert!(rt; is_outside(Range { lba: 7, count: 2 }, 8));
-    assert!(rt;
-        is_outside(
-            Range {
-                lba: u64::MAX,
-                count: 1
-            },
-            8
-        )
-    );
-}
-
-#[test]
 fn who_is_told_first(rt: HostRuntime) {
     for (code, first) in [
         (0x12, true),

@@ -12,7 +12,7 @@ use crate::judging::{AtOnce, judge, task_of};
 use crate::reply::{pass_check, pass_status};
 use crate::waiting::Waiting;
 use satl_asks::{attention_sense, goes_before_attentions};
-use satl_base::{NoMemory, Request, Scsi};
+use satl_base::{NEXUSES, NoMemory, Request, Scsi};
 use satl_cdb::Command;
 use satl_identify::Identity;
 use satl_unit::{Attention, Attentions};
@@ -24,7 +24,7 @@ pub struct Steps<'a> {
     /// The tasks that wait, in order of arrival.
     pub waiting: Waiting,
     /// The unit attentions of each nexus.
-    pub attentions: [Attentions; 4],
+    pub attentions: [Attentions; NEXUSES],
     /// The output that is left to compare.
     pub output: Cursor<'a>,
 }
@@ -51,7 +51,7 @@ impl<'a> Steps<'a> {
 }
 
 /// The unit attention that a request is answered with, which is told by that (SAM-5 5.14).
-fn next_attention(attentions: &mut [Attentions; 4], request: &Request) -> Option<Attention>
+fn next_attention(attentions: &mut [Attentions; NEXUSES], request: &Request) -> Option<Attention>
     ensures next { result ≡ attention_told attentions.old request.now }
     ensures left { attentions.new ≡ attentions_left result request.now.nexus attentions.old }
 {

@@ -10,8 +10,10 @@ ghost use Rattle.satl_audit.specs.Arriving.{BecomesJudged, IsServing, placed_or_
 ghost use Rattle.satl_audit.specs.Waiting.{IsTransfer, MayWait};
 
 use arrayvec::ArrayVec;
-use satl_asks::{held_blocks, is_ordered, is_outside, needed, plain, range_of, refusal_sense};
-use satl_base::{Pages, Range, Request};
+use satl_asks::{
+    held_blocks, is_ordered, needed, out_of_range, range_of, refusal_sense, short_data,
+};
+use satl_base::{MOST_RANGES, Pages, Range, Request};
 use satl_cdb::{Command, read_cdb};
 use satl_identify::Identity;
 use satl_line::{Entry, Kind};
@@ -25,7 +27,7 @@ pub enum AtOnce {
 }
 
 /// The ranges that the task of a known command reads or writes.
-fn ranges_of(command: &Command) -> ArrayVec<Range, 64>
+fn ranges_of(command: &Command) -> ArrayVec<Range, MOST_RANGES>
     requires { is_known (Ok command.now) ≡ true }
     ensures { (body : List Block) → result.items ≡ (asks command.now).ranges body }
 {
@@ -62,11 +64,11 @@ fn judge_command(
         → command_arrival s (record request.now { body = body }) command
         ≡ placed_or_answered s (record request.now { body = body }) result }
 {
-    if is_outside(range_of(&command), identity.capacity) {
-        return Err(AtOnce::Check(plain(0x5, 0x21, 0x00)));
+    if range_of(&command).goes_past(identity.capacity) {
+        return Err(AtOnce::Check(out_of_range()));
     }
     if u64::from(request.data_len) < needed(&command) {
-        return Err(AtOnce::Check(plain(0xB, 0x4B, 0x00)));
+        return Err(AtOnce::Check(short_data()));
     }
     begin(command)
 }

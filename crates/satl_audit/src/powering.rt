@@ -15,7 +15,7 @@ use crate::arriving::Steps;
 use crate::effects::pend_blocks;
 use crate::sectors::Sectors;
 use crate::waiting::Waiting;
-use satl_base::{NoMemory, Range};
+use satl_base::{NEXUSES, NoMemory, Range};
 use satl_cdb::Command;
 use satl_unit::{Attention, Attentions};
 
@@ -77,14 +77,14 @@ fn power_on() -> Attentions
 }
 
 /// That for each of four nexuses (SAM-5 6.3).
-fn powered_on() -> [Attentions; 4]
+fn powered_on() -> [Attentions; NEXUSES]
     ensures { result ≡ replicate 4 (attentions.PowerOn ∷ []) }
 {
     [power_on(), power_on(), power_on(), power_on()]
 }
 
 /// Each nexus is to be told that the power was on, and nothing else (SAM-5 6.3).
-fn tell_all(conditions: &mut [Attentions; 4])
+fn tell_all(conditions: &mut [Attentions; NEXUSES])
     ensures { conditions.new ≡ map (λ _. attentions.PowerOn ∷ []) conditions.old }
 {
     *conditions = powered_on();

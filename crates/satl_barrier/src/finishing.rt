@@ -2,11 +2,8 @@
 ghost use Rattle.std.specs.Prelude.{◌≡◌, ◌<◌, ◌≤◌, ◌+◌, ◌^◌};
 ghost use Rattle.satl_barrier.specs.Finishing.{piece_behind};
 
-use satl_base::Range;
+use satl_base::{PIECE, Range};
 use satl_regs::Taskfile;
-
-/// The most blocks of a piece.
-const PIECE: u32 = 64;
 
 /// How a command that goes over the medium ended (ACS-3, error outputs).
 #[derive(Clone, Copy, Debug, PartialEq, Eq)]

@@ -35,3 +35,14 @@ pub struct Range {
     /// The number of blocks.
     pub count: u32,
 }
+
+impl Range {
+    ghost use Rattle.std.specs.Prelude.{◌≡◌, ◌+◌, nat_lt};
+
+    /// Whether it goes past the last of so many blocks.
+    pub fn goes_past(self, capacity: u64) -> bool
+        ensures { result ≡ nat_lt capacity (self.lba + self.count) }
+    {
+        u64::from(self.count) > capacity || self.lba > capacity - u64::from(self.count)
+    }
+}

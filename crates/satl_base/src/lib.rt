@@ -21,6 +21,7 @@ pub use bytes::{append, checksum_of};
 pub use lender::Lender;
 pub use limits::{
     INPUT_LIMIT, LONGEST_DATA, MOST_COVERED, MOST_HELD, MOST_MOVED, MOST_RANGES, MOST_TASKS,
+    NEXUSES, PIECE, QUEUE_DEPTH,
 };
 pub use modes::{ModeChange, Modes};
 pub use pages::{Blocks, NoMemory, Page, Pages, Pieces};

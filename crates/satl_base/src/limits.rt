@@ -16,6 +16,15 @@ pub const MOST_COVERED: u32 = 65_536;
 /// The most ranges of one UNMAP (profile).
 pub const MOST_RANGES: usize = 64;
 
+/// The blocks of a piece, in which a WRITE SAME and a VERIFY with comparison go over their range (profile).
+pub const PIECE: u32 = 64;
+
+/// The nexuses that there are, numbered from 0 (profile).
+pub const NEXUSES: usize = 4;
+
+/// The most queued commands that a drive has at once, tags 0 to 31 (ACS-3, native command queuing).
+pub const QUEUE_DEPTH: usize = 32;
+
 /// Within how many bytes each frame, or each item of a bridge, ends in its input (profile).
 pub const INPUT_LIMIT: u64 = 1 << 40;
 

@@ -1,4 +1,4 @@
-use crate::{Block, Nexus, Page, Pages, Replies, Reply, Scsi, SenseBytes, Tag};
+use crate::{Block, Nexus, Page, Pages, Range, Replies, Reply, Scsi, SenseBytes, Tag};
 use std::alloc::Global;
 use std::test::Fail;
 
@@ -47,4 +47,16 @@ fn replies_come_in_order(rt: HostRuntime) {
     assert_eq!(rt; replies.first().tag, Tag(7));
     assert_eq!(rt; replies.remove_first().blocks(), 0);
     assert_eq!(rt; replies.first().tag, Tag(8));
+}
+
+#[test]
+fn the_last_block_is_inside(rt: HostRuntime) {
+    assert!(rt; !Range { lba: 7, count: 1 }.goes_past(8));
+    assert!(rt; !Range { lba: 8, count: 0 }.goes_past(8));
+    assert!(rt; Range { lba: 7, count: 2 }.goes_past(8));
+    let last = Range {
+        lba: u64::MAX,
+        count: 1,
+    };
+    assert!(rt; last.goes_past(8));
 }

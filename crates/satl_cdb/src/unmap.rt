@@ -23,12 +23,6 @@ fn descriptor_at(list: &Pages, i: usize) -> Range
     }
 }
 
-fn exceeds(range: Range, capacity: u64) -> bool
-    ensures { result ≡ nat_lt capacity (range.lba + range.count) }
-{
-    u64::from(range.count) > capacity || range.lba > capacity - u64::from(range.count)
-}
-
 fn push_used(ranges: &mut ArrayVec<Range, MOST_RANGES>, range: Range)
     requires { array_vec_len ranges.old < most_ranges }
     ensures items { ranges.new.items ≡ ranges.old.items ++ filter is_used (range ∷ []) }
@@ -56,7 +50,7 @@ fn ranges_up_to(
     let mut sum = 0;
     for i in 0..count {
         let range = descriptor_at(list, i);
-        if exceeds(range, capacity) {
+        if range.goes_past(capacity) {
             return Err(Illegal::list_out_of_range());
         }
         if range.count > MOST_COVERED - sum {

@@ -4,7 +4,7 @@ ghost use Rattle.satl_drive.specs.State.{IsFit};
 ghost use Rattle.satl_unit.specs.declared.attention.Attention.TheVariants as attentions;
 ghost use Rattle.satl_core.specs.Benching.{IsActedOn};
 
-use satl_base::BenchEvent;
+use satl_base::{BenchEvent, NEXUSES};
 use satl_drive::Bench;
 use satl_unit::{Attention, Attentions};
 
@@ -24,7 +24,7 @@ pub fn act_on<D: Bench>(drive: &mut D, event: &BenchEvent<'_>)
 }
 
 /// Each nexus is to be told that the power was on (SAM-5 6.3).
-pub fn powered_on() -> [Attentions; 4]
+pub fn powered_on() -> [Attentions; NEXUSES]
     ensures { result ≡ Rattle.std.specs.Prelude.replicate 4 (attentions.PowerOn ∷ []) }
 {
     [power_on(), power_on(), power_on(), power_on()]

@@ -6,7 +6,7 @@ ghost use Rattle.satl_core.specs.Managing.{condition_of, effect, effect_of, is_t
 
 use crate::leaving::{Scope, has_any};
 use satl_asks::is_unit_0;
-use satl_base::{Manage, Nexus, Response};
+use satl_base::{Manage, NEXUSES, Nexus, Response};
 use satl_flight::Queue;
 use satl_unit::{Attention, Attentions, Function};
 
@@ -104,7 +104,7 @@ fn has_unit(function: Option<Function>) -> bool
 }
 
 /// Posts what a function posts, by the tasks that were there before it (SAM-5 5.14).
-pub fn post(attentions: &mut [Attentions; 4], queue: &Queue, posts: &Option<Posting>)
+pub fn post(attentions: &mut [Attentions; NEXUSES], queue: &Queue, posts: &Option<Posting>)
     ensures { attentions.new ≡ once_posted posts.now queue.now.tasks attentions.old }
 {
     if let Some(posting) = posts {
@@ -113,7 +113,7 @@ pub fn post(attentions: &mut [Attentions; 4], queue: &Queue, posts: &Option<Post
 }
 
 /// Posts the condition for each nexus that is told.
-fn post_all(attentions: &mut [Attentions; 4], queue: &Queue, posting: &Posting)
+fn post_all(attentions: &mut [Attentions; NEXUSES], queue: &Queue, posting: &Posting)
     ensures { attentions.new ≡ once_posted (Some posting.now) queue.now.tasks attentions.old }
 {
     for number in 0..4 {
@@ -124,7 +124,7 @@ fn post_all(attentions: &mut [Attentions; 4], queue: &Queue, posting: &Posting)
     }
 }
 
-fn post_at(attentions: &mut [Attentions; 4], queue: &Queue, posting: &Posting, nexus: Nexus)
+fn post_at(attentions: &mut [Attentions; NEXUSES], queue: &Queue, posting: &Posting, nexus: Nexus)
     ensures { attentions.new ≡ with_posted posting.now queue.now.tasks nexus attentions.old }
 {
     if is_told(posting, queue, nexus) {

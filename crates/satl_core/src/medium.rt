@@ -10,17 +10,14 @@ ghost use Rattle.satl_core.specs.Medium.{HasCompared, HasFinished, HasVerified, 
 ghost use Rattle.satl_core.specs.Turning.{barrier_calls};
 
 use crate::turning::Ending;
-use satl_asks::plain;
+use satl_asks::miscompare;
 use satl_barrier::{Comparison, Finish, compare, trim, verify, write_same};
-use satl_base::{Pages, Range, Steps};
+use satl_base::{PIECE, Pages, Range, Steps};
 use satl_drive::{Drive, LinkDown};
 use satl_pages::Pool;
 use satl_pass::error_sense_at;
 use satl_regs::{ICRC_ABRT, UNC};
 use std::sync::ledger::Ledger;
-
-/// The pages that are taken from the pool for the pieces of a command, and given back when it ends.
-const SCRATCH_PAGES: u32 = 64;
 
 /// A VERIFY without comparison of a range of 1 to 65,536 blocks (SBC-3, VERIFY commands).
 pub fn verify_range<D: Drive, L: Ledger>(
@@ -121,7 +118,7 @@ fn scratch_pages(pool: &mut Pool) -> Pages
     ensures free { pool.new.free + piece ≡ pool.old.free }
     ensures out { pool.new.out ≡ pool.old.out + piece }
 {
-    let Some(pages) = pool.take(SCRATCH_PAGES) else {
+    let Some(pages) = pool.take(PIECE) else {
         unreachable!();
     };
     pages
@@ -144,7 +141,7 @@ fn compared(comparison: Comparison) -> Ending
 {
     match comparison {
         Comparison::Same => Ending::Good,
-        Comparison::Differs => Ending::Check(plain(0xE, 0x1D, 0x00)),
+        Comparison::Differs => Ending::Check(miscompare()),
         Comparison::Flawed { lba } => flawed(false, lba),
         Comparison::Garbled => garbled(),
     }

@@ -34,10 +34,10 @@ use crate::submitting::{
     AtOnce, answer_at_once, judge_code, next_attention, other_answer, own_pages, put_task,
     read_lengths, reply_to, tell_attention,
 };
-use satl_asks::{is_for_unit, plain};
+use satl_asks::{is_for_unit, overlapped};
 use satl_barrier::tell_identity;
 use satl_base::{
-    BenchEvent, Lender, Manage, Modes, NoMemory, Pages, Replies, Request, Response, Scsi,
+    BenchEvent, Lender, Manage, Modes, NEXUSES, NoMemory, Pages, Replies, Request, Response, Scsi,
     SenseBytes, Steps,
 };
 use satl_cdb::Command;
@@ -86,7 +86,7 @@ pub struct Satl {
     pub(crate) modes: Modes,
     pub(crate) started: bool,
     pub(crate) down: bool,
-    pub(crate) attentions: [Attentions; 4],
+    pub(crate) attentions: [Attentions; NEXUSES],
     pub(crate) queue: Queue,
     pub(crate) pool: Pool,
     // Where a task comes from, and where one that left lies until it is answered.
@@ -254,7 +254,7 @@ impl Satl {
         ensures steps { steps.new ≤ steps.old + off_calls }
     {
         let scope = Scope::OfNexus(request.nexus);
-        let overlapped = AtOnce::Check(plain(0xB, 0x4E, 0x00));
+        let overlapped = AtOnce::Check(overlapped());
         answer_at_once(
             &mut self.pool,
             &self.identity,
@@ -518,7 +518,7 @@ fn first_modes(identity: &Identity) -> Modes
 }
 
 /// No unit attention for any nexus.
-fn no_attentions() -> [Attentions; 4]
+fn no_attentions() -> [Attentions; NEXUSES]
     ensures { result ≡ Rattle.std.specs.Prelude.replicate 4 [] }
 {
     [

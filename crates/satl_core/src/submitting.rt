@@ -18,9 +18,10 @@ ghost use Rattle.satl_direct.specs.Device.{attentions_left};
 use crate::satl::Satl;
 use satl_asks::{
     attention_sense, change_of, fields_fault, goes_before_attentions, held_blocks, is_ordered,
-    is_outside, length_fault, listed_ranges, needed, plain, put_ranges, range_of, refusal_sense,
+    length_fault, link_lost, listed_ranges, needed, no_sense, not_ready, out_of_range, put_ranges,
+    range_of, refusal_sense, short_data, unknown_unit,
 };
-use satl_base::{Block, Modes, Pages, Replies, Reply, Request, Scsi, SenseBytes};
+use satl_base::{Block, Modes, NEXUSES, Pages, Replies, Reply, Request, Scsi, SenseBytes};
 use satl_cdb::{Command, INQUIRY, Illegal, REQUEST_SENSE, desc, evpd, read_cdb, read_unmap_list};
 use satl_identify::Identity;
 use satl_line::{Entry, Kind};
@@ -47,7 +48,7 @@ pub enum AtOnce {
 pub fn other_answer(request: &Request) -> AtOnce
     ensures { result ≡ other_answer request.now }
 {
-    let no_unit = plain(0x5, 0x25, 0x00);
+    let no_unit = unknown_unit();
     match request.cdb[0] {
         INQUIRY if !evpd(&request.cdb) => {
             let alloc = u16::from_be_bytes([request.cdb[3], request.cdb[4]]);
@@ -86,7 +87,10 @@ pub fn tell_attention(what: Attention, request: &Request) -> AtOnce
 }
 
 /// The unit attention that a request is answered with, which is told by that (SAM-5 5.14; of REQUEST SENSE: SPC-4 6.39).
-pub fn next_attention(attentions: &mut [Attentions; 4], request: &Request) -> Option<Attention>
+pub fn next_attention(
+    attentions: &mut [Attentions; NEXUSES],
+    request: &Request,
+) -> Option<Attention>
     ensures next { result ≡ attention_of attentions.old request.now }
     ensures left { attentions.new ≡ attentions_left result request.now.nexus attentions.old }
 {
@@ -128,8 +132,8 @@ fn judge_command(satl: &Satl, request: &Request, command: &Command) -> Result<Co
         return Err(AtOnce::Check(refusal_sense(why)));
     }
     let range = range_of(command);
-    if is_outside(range, satl.identity.capacity) {
-        return Err(AtOnce::Check(plain(0x5, 0x21, 0x00)));
+    if range.goes_past(satl.identity.capacity) {
+        return Err(AtOnce::Check(out_of_range()));
     }
     judge_data(satl, request, command)
 }
@@ -143,7 +147,7 @@ fn judge_data(satl: &Satl, request: &Request, command: &Command) -> Result<Comma
         return Err(AtOnce::Check(refusal_sense(why)));
     }
     if u64::from(request.data_len) < needed(command) {
-        return Err(AtOnce::Check(plain(0xB, 0x4B, 0x00)));
+        return Err(AtOnce::Check(short_data()));
     }
     match data_fault(satl, request, command) {
         Some(why) => Err(AtOnce::Check(refusal_sense(why))),
@@ -238,7 +242,7 @@ fn answer_to(satl: &Satl, request: &Request, command: &Command) -> Result<Comman
             (Data::Modes(asked), u32::from(alloc))
         }
         Command::RequestSense { descriptor, alloc } => {
-            let sense = plain(0x0, 0x00, 0x00);
+            let sense = no_sense();
             (Data::Sense { descriptor, sense }, u32::from(alloc))
         }
         Command::ReadCapacity10 => (Data::Capacity10, 8),
@@ -288,10 +292,10 @@ fn readiness(satl: &Satl) -> AtOnce
     ensures { result ≡ readiness satl.now }
 {
     if satl.down {
-        return AtOnce::Check(plain(0x4, 0x08, 0x00));
+        return AtOnce::Check(link_lost());
     }
     if !satl.started {
-        return AtOnce::Check(plain(0x2, 0x04, 0x02));
+        return AtOnce::Check(not_ready());
     }
     AtOnce::Good
 }

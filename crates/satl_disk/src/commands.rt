@@ -6,14 +6,15 @@ ghost use Rattle.satl_disk.specs.Queue.{command_at};
 
 use crate::queue::Noted;
 use arrayvec::ArrayVec;
+use satl_base::QUEUE_DEPTH;
 use std::marker::Model;
 
 /// The commands that are outstanding, at most 32, in order of issue. Clauses see the list of them.
 // Each stands at the place of its tag, and their order is that of the tags: as one leaves, bytes alone move up.
 #[derive(Drop)]
 pub struct Commands {
-    by_tag: [Noted; 32],
-    order: ArrayVec<u8, 32>,
+    by_tag: [Noted; QUEUE_DEPTH],
+    order: ArrayVec<u8, QUEUE_DEPTH>,
 }
 
 impl Model for Commands {

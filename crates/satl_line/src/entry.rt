@@ -2,7 +2,7 @@
 ghost use Rattle.std.specs.Prelude.{◌≡◌};
 
 use arrayvec::ArrayVec;
-use satl_base::{ModeChange, Nexus, Pages, Range, Tag};
+use satl_base::{MOST_RANGES, ModeChange, Nexus, Pages, Range, Tag};
 use satl_cdb::Command;
 
 /// How a task goes about the medium (profile, after SAM-5's task set).
@@ -51,7 +51,7 @@ pub struct Entry {
     /// Its pages: data-out, or room for data-in.
     pub body: Pages,
     /// The range of a READ or WRITE, the ranges of an UNMAP; none for all others.
-    pub ranges: ArrayVec<Range, 64>,
+    pub ranges: ArrayVec<Range, MOST_RANGES>,
     /// What a MODE SELECT changes.
     pub modes: Option<ModeChange>,
     /// How many bytes of data-in the host takes, where it said so.

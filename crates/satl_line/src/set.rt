@@ -35,10 +35,10 @@ pub struct TaskSetFull;
 #[derive(Drop)]
 pub struct TaskSet {
     slots: Vec<TaskBox>,
-    outlines: [Outline; 64],
-    order: ArrayVec<u8, 64>,
-    free: ArrayVec<u8, 64>,
-    masks: [u64; 64],
+    outlines: [Outline; MOST_TASKS],
+    order: ArrayVec<u8, MOST_TASKS>,
+    free: ArrayVec<u8, MOST_TASKS>,
+    masks: [u64; MOST_TASKS],
     // The slots that masks may have, as the bits of a number: mostly none.
     marked: u64,
     blocks: u32,
@@ -267,7 +267,7 @@ impl TaskSet {
 
     /// For each slot the slots of the earlier tasks that its task conflicts with, as the bits of a number; 0 for an
     /// empty slot (profile).
-    pub fn masks(&self) -> &[u64; 64]
+    pub fn masks(&self) -> &[u64; MOST_TASKS]
         ensures { AreMasks self.now result.now }
     {
         &self.masks
@@ -286,16 +286,16 @@ impl TaskSet {
     }
 }
 
-fn no_outlines() -> [Outline; 64]
+fn no_outlines() -> [Outline; MOST_TASKS]
     ensures { result ≡ replicate 64 no_outline }
 {
-    [Outline::none(); 64]
+    [Outline::none(); MOST_TASKS]
 }
 
-fn no_masks() -> [u64; 64]
+fn no_masks() -> [u64; MOST_TASKS]
     ensures { result ≡ replicate 64 0 }
 {
-    [0; 64]
+    [0; MOST_TASKS]
 }
 
 fn no_counts() -> [u8; 256]

@@ -5,14 +5,14 @@ ghost use Rattle.satl_base.specs.declared.block.Block.{Block};
 ghost use Rattle.satl_pages.specs.Slots.{pages_at};
 
 use arrayvec::ArrayVec;
-use satl_base::Pages;
+use satl_base::{Pages, QUEUE_DEPTH};
 use std::marker::Model;
 
 /// A slot for each of the 32 tags of a drive (ACS-3, NCQ feature set; the slots are the profile's). Clauses see the
 /// list of the slots, each empty or with its blocks.
 #[derive(Drop)]
 pub struct Dma {
-    slots: ArrayVec<Option<Pages>, 32>,
+    slots: ArrayVec<Option<Pages>, QUEUE_DEPTH>,
 }
 
 impl Model for Dma {

@@ -13,8 +13,8 @@ returns-clause-judged c = λ s body serving.
     passes s (record c.args.request.now { body = body }) c.args.command _ c.requires
     (ap (λ (i : Identity). nat_lt i.capacity ((range_of c.args.command).lba + (range_of c.args.command).count)) serving.same
     ∙ ap (λ (g : Range). nat_lt c.args.identity.now.capacity (g.lba + g.count)) (sym c.range_of.ensures)
-    ∙ sym c.is_outside.ensures
-    ∙ c.if-is_outside.false)
+    ∙ sym c.goes_past.ensures
+    ∙ c.if-goes_past.false)
     (le-ltb _ _ (omega (arith, c.if-from-needed.false, c.from.ensures, c.needed.ensures)))
     (c.begin.ensures.judged c.args.identity.now s (record c.args.request.now { body = body }) serving)
 
@@ -24,5 +24,5 @@ returns-clause-waits c =
     (λ command same transfer.
     may_wait c.args.identity.now.capacity c.args.request.now.data_len command transfer
     (subst (λ (x : Command). (range_of x).lba + (range_of x).count ≤ c.args.identity.now.capacity) (sym same)
-    (ltb-false _ _ (ap (λ (g : Range). nat_lt c.args.identity.now.capacity (g.lba + g.count)) (sym c.range_of.ensures) ∙ sym c.is_outside.ensures ∙ c.if-is_outside.false)))
+    (ltb-false _ _ (ap (λ (g : Range). nat_lt c.args.identity.now.capacity (g.lba + g.count)) (sym c.range_of.ensures) ∙ sym c.goes_past.ensures ∙ c.if-goes_past.false)))
     (subst (λ (x : Command). needed x ≤ c.args.request.now.data_len) (sym same) (omega (arith, c.if-from-needed.false, c.from.ensures, c.needed.ensures))))
