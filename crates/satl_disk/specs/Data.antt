@@ -1,5 +1,6 @@
 -- The IDENTIFY DEVICE data of the modelled drive (ACS-3 7.12.7; the values: profile).
 use Rattle.std.specs.Prelude.{ℕ, ◌+◌, ◌-◌, ◌*◌, ◌/◌, ◌%◌, ◌^◌, ◌==◌, Bool, if◌then◌else◌, List, [], ◌∷◌, replicate, slice_index, slice_set}
+use Rattle.std.specs.List.{fold}
 use Rattle.satl_base.specs.Identify.{word_bits}
 use Rattle.satl_identify.specs.Data.{settings_byte, with_integrity, with_settings}
 
@@ -13,8 +14,7 @@ set_word w d = slice_set (slice_set d (2 * w.0) (w.1 % 2 ^ 8)) (2 * w.0 + 1) (w.
 
 -- the data with these words, one after another
 abbrev pub set_words : List Word → List ℕ → List ℕ
-set_words [] d = d
-set_words (w ∷ ws) d = set_words ws (set_word w d)
+set_words ws d = fold (λ bytes w. set_word w bytes) d ws
 
 abbrev pub word_is : ℕ → ℕ → Word
 word_is place value = (place, value)

@@ -1,6 +1,6 @@
 -- The law of arrival order (SAM-5 8, command order; SBC-3 5).
 use Rattle.std.specs.Prelude.{◌≡◌, ℕ, ◌-◌, ◌==◌, ◌&&◌, not, ◌<◌, Bool, true, false, if◌then◌else◌, List, [], ◌∷◌, ◌++◌, Some, Result, Ok, Err, get_or, map, slice_get}
-use Rattle.std.specs.List.{AllByRecursion, list_any, range_with_len}
+use Rattle.std.specs.List.{AllByRecursion, fold, list_any, range_with_len}
 use Rattle.satl_base.specs.declared.block.Block.{Block}
 use Rattle.satl_base.specs.declared.request.Request.{Request}
 use Rattle.satl_base.specs.declared.reply.Reply.{Reply}
@@ -53,8 +53,7 @@ block_after acted trim x _ was = was
 
 -- a sector's block by the WRITEs that have acted on it, in the order of the input (SBC-3 5)
 abbrev pub content : (Request → Bool) → Bool → ℕ → List Frame → Block → Block
-content acted trim x [] was = was
-content acted trim x (event ∷ events) was = content acted trim x events (block_after acted trim x event was)
+content acted trim x events was = fold (λ block event. block_after acted trim x event block) was events
 
 -- what a read of a sector gives, and no block past the last (SBC-3)
 abbrev pub read_at : List Cell → ℕ → Block

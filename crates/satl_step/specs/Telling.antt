@@ -1,5 +1,6 @@
 -- How answers are told, one after the other, where the next one may depend on those before it (profile).
 use Rattle.std.specs.Prelude.{◌≡◌, ℕ, List, [], ◌∷◌, ◌++◌, Option}
+use Rattle.std.specs.List.{fold}
 use Rattle.satl_io.specs.Known.{Wrote, WrotePart}
 use Rattle.satl_frame.specs.Output.{Answer}
 
@@ -15,8 +16,7 @@ all_told told behind t (answer ∷ answers) = told t answer ++ all_told told beh
 
 -- the teller behind them (profile)
 abbrev pub all_behind : {T : Type 0} → (T → Answer → T) → T → List Answer → T
-all_behind behind t [] = t
-all_behind behind t (answer ∷ answers) = all_behind behind (behind t answer) answers
+all_behind behind t answers = fold behind t answers
 
 -- answers were told (profile)
 pub record IsTold {T : Type 0} (told : T → Answer → List ℕ) (behind : T → Answer → T) (before after : Telling T)
