@@ -1,7 +1,7 @@
 -- The drive's queue is as deep as the device allows.
 use Rattle.std.proofs.Common.{◌≡◌, ◌⊎◌, refl, sym, ◌∙◌, ap, subst, inl, inr, ⊎_elim, ℕ, ◌≤◌, Bool, true, false, cond, List, [], ◌∷◌, length, arith, Some, eqb-true, eq-eqb}
 use Rattle.std.specs.Prelude.{◌==◌, ◌||◌, ◌&&◌, MatchBool, not, map, min, if◌then◌else◌}
-use Rattle.std.specs.List.{AllByRecursion, filter, find}
+use Rattle.std.specs.List.{AllByRecursion, IsDistinct, filter, find}
 use Rattle.std.proofs.Math.Nat.{min-le_left, min-le_right}
 use Rattle.satl_base.specs.Lists.{remove_first}
 use Rattle.satl_base.proofs.ListsLemmas.{length-remove_first, All-weaken, All-both, All-filter}
@@ -44,6 +44,7 @@ still_held slot other (f ∷ fs) apart h =
     not_here false fo fi e = e
 
 pub pigeon : (hs : List Held) (fs : List Flying) → AreOwnSlots hs → AllByRecursion (λ (h : Held). is_outstanding fs h.slot ≡ true) hs → length hs ≤ length fs
+unfolding IsDistinct
 pigeon [] fs own held = omega arith
 pigeon (h ∷ hs) fs own held =
     let f = found h.slot fs held.0 in
@@ -91,12 +92,14 @@ each_eligible (h ∷ hs) = (inl refl, kept (eligibles_held hs) (each_eligible hs
         [ true ↦ λ e. kept us all.1 | false ↦ λ e. (inr (e, all.0), kept us all.1) ]) refl
 
 own_filter : (p : Held → Bool) (hs : List Held) → AreOwnSlots hs → AreOwnSlots (filter p hs)
+unfolding IsDistinct
 own_filter p [] own = tt
 own_filter p (h ∷ hs) own =
     elim (p h) as (λ b. AreOwnSlots (cond b (h ∷ filter p hs) (filter p hs)))
     [ true ↦ (All-filter (λ (k : Held). (h.slot == k.slot) ≡ false) p hs own.0, own_filter p hs own.1) | false ↦ own_filter p hs own.1 ]
 
 own_eligibles : (hs : List Held) → AreOwnSlots hs → AreOwnSlots (eligibles_held hs)
+unfolding IsDistinct
 own_eligibles [] own = tt
 own_eligibles (h ∷ hs) own = (
   All-filter (λ (k : Held). (h.slot == k.slot) ≡ false) (λ u. not (clash h u)) (eligibles_held hs) (All-eligibles (λ (k : Held). (h.slot == k.slot) ≡ false) hs own.0),

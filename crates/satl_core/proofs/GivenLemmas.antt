@@ -2,7 +2,7 @@
 use Rattle.std.proofs.Common.{◌≡◌, refl, sym, ◌∙◌, ap, subst, inl, inr, ⊎_elim, ℕ, Bool, true, false, cond, List, [], ◌∷◌, Some, eqb-true, eq-eqb}
 use Rattle.std.specs.Prelude.{◌==◌, ◌&&◌, ◌||◌, not, map, MatchBool, unwrap_or}
 use Rattle.std.specs.Option.{option_map}
-use Rattle.std.specs.List.{AllByRecursion, AllZip, find, list_any}
+use Rattle.std.specs.List.{AllByRecursion, AllZip, IsDistinct, find, list_any}
 use Rattle.std.proofs.lemmas.List.{length-map}
 use Rattle.satl_base.specs.declared.modes.Modes.{Modes}
 use Rattle.satl_base.proofs.Booleans.{eqb-sym}
@@ -204,6 +204,7 @@ queue_is tasks modes started attentions identity d flying tie own kept used = re
 -- ---- a task is found by its slot
 
 find_own : (hs : List Held) → AreOwnSlots hs → AllByRecursion (λ (h : Held). find (is_in_slot h.slot) hs ≡ Some h) hs
+unfolding IsDistinct
 find_own [] own = tt
 find_own (h ∷ hs) own = (ap (λ b. cond b (Some h) (find (is_in_slot h.slot) hs)) (eq-eqb h.slot h.slot refl), behind hs own.0 (find_own hs own.1))
   where

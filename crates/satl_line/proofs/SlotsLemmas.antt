@@ -2,7 +2,7 @@
 use Rattle.std.proofs.Common.{◌≡◌, refl, sym, ◌∙◌, ap, subst, ℕ, zero, suc, ◌+◌, ◌-◌, ◌*◌, ◌%◌, ◌<◌, ◌≤◌, ◌^◌, Bool, true, false, cond, List, [], ◌∷◌, ◌++◌, Some, map, length, take, drop, get_or, set, arith, append_assoc, add-one, ◌⊎◌, ⊎_elim, inl, inr, bit_or}
 use Rattle.std.specs.Prelude.{not, nat_lt, ◌==◌, ◌||◌, ◌&&◌, if◌then◌else◌, slice_get, unwrap_or, replicate}
 use Rattle.std.specs.Option.{option_map}
-use Rattle.std.specs.List.{list_any, All, AllByRecursion, remove, position_from}
+use Rattle.std.specs.List.{list_any, All, AllByRecursion, IsDistinct, remove, position_from}
 use Rattle.std.specs.Int.Bits.{and_zero_l}
 use Rattle.std.specs.Int.{bit_at, bit_not, w64}
 use Rattle.std.proofs.lemmas.Nat.Bits.{bit_at_set_same, bit_at_set_other, bit_at_clear_same, bit_at_clear_other, bit_at-zero}
@@ -705,6 +705,7 @@ not_in slots s (q ∷ qs) h =
 
 -- the slots of all tasks differ
 pub own_slots : (slots : List Entry) (order : List ℕ) → AllByRecursion (λ s. count_of s order ≤ 1) order → AreOwnSlots (tasks_in slots order)
+unfolding IsDistinct
 own_slots slots [] once = tt
 own_slots slots (q ∷ qs) once =
     let one : count_of q (q ∷ qs) ≡ 1 + count_of q qs = rw (eq-eqb q q refl) (omega arith) in

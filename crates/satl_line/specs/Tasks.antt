@@ -1,8 +1,8 @@
 -- The tasks of a set, each in its slot.
-use Rattle.std.specs.Prelude.{◌≡◌, ℕ, ◌<◌, ◌==◌, Bool, false, ◌&&◌, if◌then◌else◌, List, [], ◌∷◌, ◌++◌, map, take, length, slice_get, slice_index, Option, Some}
+use Rattle.std.specs.Prelude.{◌≡◌, ℕ, ◌<◌, ◌==◌, Bool, ◌&&◌, if◌then◌else◌, List, [], ◌∷◌, ◌++◌, map, take, length, slice_get, slice_index, Option, Some}
 use Rattle.std.specs.Int.{bit_at}
 use Rattle.std.specs.Option.{option_map}
-use Rattle.std.specs.List.{AllByRecursion, list_any, sum_by}
+use Rattle.std.specs.List.{IsDistinct, list_any, sum_by}
 use Rattle.satl_base.specs.declared.block.Block.{Block}
 use Rattle.satl_base.specs.declared.request.Tag.{Tag}
 use Rattle.satl_base.specs.Limits.{leave_no_room}
@@ -31,8 +31,7 @@ slots_of tasks = map (λ held. held.slot) tasks
 
 -- no two tasks lie in one slot (profile)
 abbrev pub AreOwnSlots : List Held → Type 0
-AreOwnSlots [] = Unit {0}
-AreOwnSlots (held ∷ rest) = AllByRecursion (λ (other : Held). (held.slot == other.slot) ≡ false) rest × AreOwnSlots rest
+AreOwnSlots tasks = IsDistinct (λ (held other : Held). held.slot == other.slot) tasks
 
 -- how many of these numbers are n (profile, of slots)
 abbrev pub count_of : ℕ → List ℕ → ℕ
