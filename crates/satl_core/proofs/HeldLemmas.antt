@@ -4,7 +4,7 @@ use Rattle.std.specs.Prelude.{IfSome, Result, Ok, Err, OnOk, is_err, remove, sli
 use Rattle.std.specs.List.{AllByRecursion, filter}
 use Rattle.std.proofs.lemmas.List.{length_push}
 use Rattle.std.proofs.lemmas.Slice.Zip.{AllZip-long}
-use Rattle.std.proofs.lemmas.List.Sums.{count_by-le-length, length-filter, sum_by-cons}
+use Rattle.std.proofs.lemmas.List.Sums.{count_by-le-length, length-filter, sum_by-append, sum_by-cons}
 use Rattle.satl_base.specs.declared.reply.Reply.{Reply}
 use Rattle.satl_line.specs.declared.entry.Entry.{Entry}
 use Rattle.satl_identify.specs.declared.identity.Identity.{Identity}
@@ -23,6 +23,14 @@ use Rattle.satl_core.proofs.Transfers.{entries_few}
 -- a filter leaves no more than there was
 pub filter_fewer : {X : Type 0} (p : X → Bool) (xs : List X) → length (filter p xs) ≤ length xs
 filter_fewer p xs = let count = length-filter p xs in let most = count_by-le-length p xs in omega (arith, count, most)
+
+-- ---- pages of one more
+
+pub held_pages_cons : (h : Held) (hs : List Held) → held_pages (h ∷ hs) ≡ length h.entry.body + held_pages hs
+held_pages_cons h hs = sum_by-cons (λ (x : Held). length x.entry.body) h hs
+
+pub reply_pages_cons : (r : Reply) (rs : List Reply) → reply_pages (r ∷ rs) ≡ length r.body + reply_pages rs
+reply_pages_cons r rs = sum_by-cons (λ (x : Reply). length x.body) r rs
 
 -- ---- the first task
 
@@ -46,7 +54,7 @@ first_of [] rest entry at left = absurd cc
 first_of (held ∷ more) rest entry at left = record { held = held; are = ap (λ x. held ∷ x) (sym left); entry_is = cc }
 
 pub first_pages : (tasks rest : List Held) (entry : Entry) → IsFirst tasks entry rest → held_pages tasks ≡ length entry.body + held_pages rest
-first_pages tasks rest entry first = rw first.are (ap (λ (e : Entry). length e.body + held_pages rest) first.entry_is)
+first_pages tasks rest entry first = rw first.are (held_pages_cons first.held rest ∙ ap (λ (e : Entry). length e.body + held_pages rest) first.entry_is)
 
 pub first_count : (tasks rest : List Held) (entry : Entry) → IsFirst tasks entry rest → length tasks ≡ suc (length rest)
 first_count tasks rest entry first = ap length first.are
@@ -80,8 +88,7 @@ at_place P (k ∷ tasks) (suc place) h all at = at_place P tasks place h all.1 a
 -- ---- pages
 
 pub held-append : (xs ys : List Held) → held_pages (xs ++ ys) ≡ held_pages xs + held_pages ys
-held-append [] ys = omega arith
-held-append (x ∷ xs) ys = let rest = held-append xs ys in omega (arith, rest)
+held-append xs ys = sum_by-append (λ (h : Held). length h.entry.body) xs ys
 
 -- tasks hold as many pages as blocks, and at most one more each
 pub held_is : (identity : Identity) (tasks : List Held) → AllByRecursion (IsKept identity) tasks → held_pages tasks ≤ total_blocks tasks + length tasks
@@ -90,11 +97,10 @@ held_is identity (h ∷ tasks) all =
     let here = all.0.pages in
     let one = entries_few h.entry.command identity.queued_trim in
     let rest = held_is identity tasks all.1 in
-    omega (arith, here, one, rest, sum_by-cons (λ (h : Held). h.entry.blocks) h tasks)
+    omega (arith, here, one, rest, held_pages_cons h tasks, sum_by-cons (λ (h : Held). h.entry.blocks) h tasks)
 
 pub reply_pages-append : (xs ys : List Reply) → reply_pages (xs ++ ys) ≡ reply_pages xs + reply_pages ys
-reply_pages-append [] ys = omega arith
-reply_pages-append (x ∷ xs) ys = let rest = reply_pages-append xs ys in omega (arith, rest)
+reply_pages-append xs ys = sum_by-append (λ (r : Reply). length r.body) xs ys
 
 -- ---- the last task
 
@@ -128,7 +134,7 @@ pub alike_held : (old new : List Held) → AreAlike old new → held_pages new �
 alike_held [] [] alike = refl
 alike_held [] (h ∷ new) alike = absurd alike
 alike_held (k ∷ old) [] alike = absurd alike
-alike_held (k ∷ old) (h ∷ new) alike = let here = alike.0.size in let rest = alike_held old new alike.1 in omega (arith, here, rest)
+alike_held (k ∷ old) (h ∷ new) alike = let here = alike.0.size in let rest = alike_held old new alike.1 in omega (arith, here, rest, held_pages_cons k old, held_pages_cons h new)
 
 pub alike_count : (old new : List Held) → AreAlike old new → length new ≡ length old
 alike_count old new alike = AllZip-long _ old new alike

@@ -15,6 +15,7 @@ use Rattle.satl_flight.specs.Flown.{is_outstanding}
 use Rattle.satl_core.specs.declared.leaving.Scope.{Scope}
 use Rattle.satl_core.specs.declared.leaving.Scope.TheVariants as scopes
 use Rattle.satl_core.specs.Leaving.{AreWaiting, is_within, left_by}
+use Rattle.satl_core.proofs.HeldLemmas.{held_pages_cons}
 
 -- a task that is to go is taken out
 pub left_removed : (goes : Entry → Bool) (tasks : List Held) (place : ℕ) (entry : Entry) → entry_at tasks place ≡ Some entry → goes entry ≡ true → left_by goes (remove tasks place) ≡ left_by goes tasks
@@ -49,8 +50,8 @@ all_looked_at goes old new place whole same all =
 
 pub pages_removed : (tasks : List Held) (place : ℕ) (entry : Entry) → entry_at tasks place ≡ Some entry → held_pages tasks ≡ length entry.body + held_pages (remove tasks place)
 pages_removed [] place entry at = absurd cc
-pages_removed (h ∷ tasks) zero entry at = let here : h.entry ≡ entry = cc in ap (λ (e : Entry). length e.body + held_pages tasks) here
-pages_removed (h ∷ tasks) (suc place) entry at = let rest = pages_removed tasks place entry at in omega (arith, rest)
+pages_removed (h ∷ tasks) zero entry at = let here : h.entry ≡ entry = cc in held_pages_cons h tasks ∙ ap (λ (e : Entry). length e.body + held_pages tasks) here
+pages_removed (h ∷ tasks) (suc place) entry at = let rest = pages_removed tasks place entry at in omega (arith, rest, held_pages_cons h tasks, held_pages_cons h (remove tasks place))
 
 pub count_removed : (tasks : List Held) (place : ℕ) (entry : Entry) → entry_at tasks place ≡ Some entry → length tasks ≡ suc (length (remove tasks place))
 count_removed [] place entry at = absurd cc

@@ -18,14 +18,14 @@ use Rattle.satl_core.specs.declared.turning.Ending.{Ending}
 use Rattle.satl_core.specs.declared.turning.Ending.TheVariants as endings
 use Rattle.satl_core.specs.Layer.{IsKept, reply_pages}
 use Rattle.satl_base.specs.Limits.{IsExpectable}
-use Rattle.satl_core.proofs.HeldLemmas.{IsKeptEntry}
+use Rattle.satl_core.proofs.HeldLemmas.{IsKeptEntry, reply_pages_cons}
 use Rattle.satl_core.proofs.Transfers.{task_few}
 use Rattle.satl_core.specs.Turning.{data_in, ended_reply, lost_replies, read_pages}
 
 -- the answers at a lost link hold no page and can be written
 pub lost_pages : (descriptor : Bool) (tasks : List Held) → reply_pages (lost_replies descriptor tasks) ≡ 0
 lost_pages descriptor [] = refl
-lost_pages descriptor (h ∷ tasks) = let rest = lost_pages descriptor tasks in omega (arith, rest)
+lost_pages descriptor (h ∷ tasks) = lost_pages descriptor tasks
 
 pub lost_writable : (descriptor : Bool) (identity : Identity) (tasks : List Held) → AllByRecursion (IsKept identity) tasks → AllByRecursion IsWritable (lost_replies descriptor tasks)
 lost_writable descriptor identity [] all = tt
@@ -54,7 +54,7 @@ all_writable : (given pushed all more : List Reply) (r : Reply) → given ≡ []
 all_writable given pushed all more r none push is one rest = rw (is, push, none) (one, rest)
 
 pub all_pages : (given pushed all more : List Reply) (r : Reply) → given ≡ [] → pushed ≡ given ++ r ∷ [] → all ≡ pushed ++ more → reply_pages all ≡ length r.body + reply_pages more
-all_pages given pushed all more r none push is = rw (is, push, none) refl
+all_pages given pushed all more r none push is = rw (is, push, none) (reply_pages_cons r more)
 
 -- the one reply to a task that ends
 pub one_writable : (given all : List Reply) (r : Reply) (entry : Entry) (ending : Ending) (descriptor : Bool) → given ≡ [] → all ≡ given ++ r ∷ [] → r ≡ ended_reply entry ending descriptor → length entry.body ≤ 4096 → IsExpectable entry.expected → AllByRecursion IsWritable all

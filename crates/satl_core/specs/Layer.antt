@@ -1,6 +1,6 @@
 -- What the layer holds, and the direct device that it and its drive are.
 use Rattle.std.specs.Prelude.{◌≡◌, ℕ, ◌+◌, ◌≤◌, ◌<◌, ◌^◌, ◌&&◌, Bool, true, false, not, if◌then◌else◌, List, [], ◌∷◌, map, length, IfSome, MatchBool}
-use Rattle.std.specs.List.{AllByRecursion}
+use Rattle.std.specs.List.{AllByRecursion, sum_by}
 use Rattle.satl_base.specs.declared.block.Range.{Range}
 use Rattle.satl_base.specs.declared.modes.Modes.{Modes}
 use Rattle.satl_base.specs.declared.reply.Reply.{Reply}
@@ -46,8 +46,7 @@ pub record Layer : Type 0 where
 
 -- the pages that tasks hold (profile)
 abbrev pub held_pages : List Held → ℕ
-held_pages [] = 0
-held_pages (h ∷ hs) = length h.entry.body + held_pages hs
+held_pages tasks = sum_by (λ h. length h.entry.body) tasks
 
 -- 1 to 4,096 blocks within the capacity and the 48 bits of an address, and pages for each (profile)
 abbrev pub IsWithin : ℕ → ℕ → ℕ → ℕ → Type 0
@@ -146,8 +145,7 @@ pub record Tied (l : Layer) (d : DriveState) : Type 0 where
 
 -- the pages in replies (profile)
 abbrev pub reply_pages : List Reply → ℕ
-reply_pages [] = 0
-reply_pages (r ∷ rs) = length r.body + reply_pages rs
+reply_pages replies = sum_by (λ r. length r.body) replies
 
 -- the parts of the layer fit together: the pool's 32,960 pages are free, in tasks, or out; each task is kept; the identity is
 -- one that a drive's data give (profile)

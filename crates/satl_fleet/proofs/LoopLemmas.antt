@@ -1,6 +1,7 @@
 -- Frames that a reader gives, one after the other.
 use Rattle.std.proofs.Common.{◌≡◌, ◌⊎◌, append_assoc, inl, inr, refl, sym, ap, subst, ◌∙◌, arith, ℕ, ◌+◌, ◌*◌, ◌≤◌, true, false, List, [], ◌∷◌, ◌++◌, length}
 use Rattle.std.proofs.lemmas.List.{append-nil, take_all}
+use Rattle.std.proofs.lemmas.List.Sums.{sum_by_push}
 use Rattle.std.specs.Prelude.{Option, None}
 use Rattle.std.specs.List.{AllByRecursion}
 use Rattle.satl_base.specs.declared.request.Request.{Request}
@@ -27,6 +28,7 @@ use Rattle.satl_fleet.specs.Runs.{HasNoTask, HaveRun, HaveRunInPart}
 use Rattle.satl_fleet.specs.Serving.{calls_due}
 use Rattle.satl_fleet.specs.Units.{UnitState, pending}
 use Rattle.satl_fleet.proofs.RunLemmas.{run_none, run_round, run_round_part}
+use Rattle.satl_fleet.proofs.SpotLemmas.{pending_cons}
 
 -- ---- whole frames
 
@@ -70,12 +72,11 @@ told_push units [] round = append-nil (round_told units round)
 told_push units (r ∷ rounds) round = ap (λ l. round_told units r ++ l) (told_push units rounds round) ∙ sym (append_assoc (round_told units r) (rounds_told units rounds) (round_told units round))
 
 calls_push : (units : ℕ) (fs : List Frame) (frame : Frame) → calls_for units (fs ++ frame ∷ []) ≡ calls_for units fs + frame_calls units frame
-calls_push units [] frame = omega arith
-calls_push units (f ∷ fs) frame = let more = calls_push units fs frame in omega (arith, more)
+calls_push units fs frame = sum_by_push (frame_calls units) fs frame
 
 none_pending : (ss : List UnitState) → AllByRecursion HasNoTask ss → pending ss ≡ 0
 none_pending [] idle = refl
-none_pending (s ∷ ss) idle = let none = ap length idle.0.tasks in let others = none_pending ss idle.1 in omega (arith, none, others)
+none_pending (s ∷ ss) idle = let none = ap length idle.0.tasks in let others = none_pending ss idle.1 in omega (arith, none, others, pending_cons s ss)
 
 -- ---- frames so far
 

@@ -2,6 +2,7 @@
 use Rattle.std.proofs.Common.{◌≡◌, refl, sym, ap, subst, ◌∙◌, arith, ℕ, zero, suc, ◌+◌, ◌<◌, List, [], ◌∷◌, length, map}
 use Rattle.std.specs.Prelude.{Some, slice_get, slice_set, slice_index_or}
 use Rattle.std.proofs.lemmas.List.{length-map}
+use Rattle.std.proofs.lemmas.List.Sums.{sum_by-cons}
 use Rattle.std.specs.List.{AllByRecursion}
 use Rattle.satl_drive.specs.State.{DriveState}
 use Rattle.satl_core.specs.Layer.{Layer}
@@ -44,14 +45,17 @@ all_set P [] k x all p = tt
 all_set P (y ∷ ys) zero x all p = (p, all.1)
 all_set P (y ∷ ys) (suc k) x all p = (all.0, all_set P ys k x all.1 p)
 
+pub pending_cons : (s : UnitState) (ss : List UnitState) → pending (s ∷ ss) ≡ length s.layer.tasks + pending ss
+pending_cons s ss = sum_by-cons (λ (x : UnitState). length x.layer.tasks) s ss
+
 -- the tasks that wait, once those of one unit are others
 pub pending_set : (ss : List UnitState) (k : ℕ) (old new : UnitState) → slice_get ss k ≡ Some old → pending (slice_set ss k new) + length old.layer.tasks ≡ pending ss + length new.layer.tasks
 pending_set [] k old new is = absurd cc
 pending_set (s ∷ ss) zero old new is =
     let same : s ≡ old = cc in
     let tasks = ap (λ (x : UnitState). length x.layer.tasks) same in
-    omega (arith, tasks)
-pending_set (s ∷ ss) (suc k) old new is = let more = pending_set ss k old new is in omega (arith, more)
+    omega (arith, tasks, pending_cons new ss, pending_cons s ss)
+pending_set (s ∷ ss) (suc k) old new is = let more = pending_set ss k old new is in omega (arith, more, pending_cons s (slice_set ss k new), pending_cons s ss)
 
 pub length_states : {D : Type 0} (f : D → DriveState) (ls : List Layer) (ds : List D) → length ds ≡ length ls → length (unit_states ls (map f ds)) ≡ length ls
 length_states f ls ds same = length_spots ls (map f ds) (length-map ds f ∙ same)

@@ -1,6 +1,6 @@
 -- One frame over the units of a target (profile).
 use Rattle.std.specs.Prelude.{◌≡◌, ◌⊎◌, ℕ, zero, suc, ◌+◌, ◌*◌, ◌≤◌, if◌then◌else◌}
-use Rattle.std.specs.Prelude.{List, [], ◌∷◌, length, Option, Some, slice_get, slice_set}
+use Rattle.std.specs.Prelude.{List, [], ◌∷◌, length, Option, Some, slice_get, slice_set, sum_by}
 use Rattle.satl_io.specs.Known.{Wrote, WrotePart}
 use Rattle.satl_frame.specs.declared.frames.Frame.{Frame}
 use Rattle.satl_frame.specs.declared.frames.Frame.TheVariants as frames
@@ -126,8 +126,7 @@ frame_calls units _ = 0
 
 -- the most calls of drives that frames take (profile)
 abbrev pub calls_for : ℕ → List Frame → ℕ
-calls_for units [] = 0
-calls_for units (frame ∷ others) = frame_calls units frame + calls_for units others
+calls_for units fs = sum_by (frame_calls units) fs
 
 -- turns, or an event of the bench (profile)
 abbrev pub IsTurnOrBench : Frame → Type 0

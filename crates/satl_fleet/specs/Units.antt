@@ -1,5 +1,5 @@
 -- The units of a target, and one event on one of them (profile).
-use Rattle.std.specs.Prelude.{◌≡◌, ℕ, ◌+◌, ◌≤◌, List, [], ◌∷◌, length, Option}
+use Rattle.std.specs.Prelude.{◌≡◌, ℕ, ◌≤◌, List, length, Option, sum_by}
 use Rattle.satl_base.specs.Lists.{paired}
 use Rattle.satl_io.specs.Causes.{RoseBy}
 use Rattle.satl_io.specs.Known.{Wrote, WrotePart}
@@ -42,8 +42,7 @@ pub record IsReady (s : UnitState) : Type 0 where
 
 -- how many tasks wait in all units (profile)
 abbrev pub pending : List UnitState → ℕ
-pending [] = 0
-pending (s ∷ ss) = length s.layer.tasks + pending ss
+pending units = sum_by (λ s. length s.layer.tasks) units
 
 -- a unit did an event, with these answers, and its drive was counted: the drive had at once as many commands as the device let
 -- it have, its faults rose by the losses, it was unplugged by the event alone, and its deepest queue did not fall (profile)

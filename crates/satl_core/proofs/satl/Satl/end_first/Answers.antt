@@ -81,6 +81,12 @@ run_task-requires-clause-room g c =
     let out = ap (λ (l : Layer). l.out) c.self.view_is in
     omega (arith, held, out, c.requires.all_in, subst (λ n. n ≤ 32768) (held_by_is c.self.inside.queue.tasks) valid.blocks, few_tasks c.self.inside.queue.tasks valid.few, c.self.invariant.all, c.self.invariant.held)
 
+pub end_task-requires-clause-held : goal.end_task-requires-clause-held
+end_task-requires-clause-held g c =
+    let first = is_first g (goal.at.end_task-requires-clause-held g c).After-entry_mut-task in
+    let held = first_pages c.self.inside.queue.tasks c.remove.new.self.tasks c.entry_mut-task.result.now first in
+    omega (arith, held, c.run_task.ensures.size, c.self.invariant.held, ap (λ (p : Counts). p.out) c.run_task.ensures.pool)
+
 pub end_task-requires-clause-few : goal.end_task-requires-clause-few
 end_task-requires-clause-few g c =
     let kept = both_kept g (goal.at.end_task-requires-clause-few g c).After-entry_mut-task in
@@ -96,6 +102,12 @@ invariant_of-self g c =
       kept = (both_kept g (goal.at.invariant_of-self g c).After-entry_mut-task).1;
       identity_is = c.self.invariant.identity_is;
     }
+
+pub end_task-requires-in-Err-clause-held : goal.end_task-requires-in-Err-clause-held
+end_task-requires-in-Err-clause-held g c =
+    let first = is_first g (goal.at.end_task-requires-in-Err-clause-held g c).After-entry_mut-task in
+    let held = first_pages c.self.inside.queue.tasks c.remove.new.self.tasks c.entry_mut-task.result.now first in
+    omega (arith, held, c.run_task.ensures.size, c.self.invariant.held, ap (λ (p : Counts). p.out) c.run_task.ensures.pool)
 
 pub end_task-requires-in-Err-clause-few : goal.end_task-requires-in-Err-clause-few
 end_task-requires-in-Err-clause-few g c =
