@@ -45,7 +45,7 @@ module _ (first : List Cell) (ds : List Deed) (s new : Device) (now : List Answe
       let x = arrives_split (arrival u r) r u v replies (arrival_comes u r (ap (λ (d : Device). is_known (says r.cdb d.identity.trim)) same ∙ k)) (quiet_sane s u h q) m in
       let stepped : Arrives r (bare u) replies (bare v) = subst (λ w. ArrivesAs w r (bare u) replies (bare v)) (sym (arrival_bare u r)) x.bared in
       let w : Walks DoneBy (ds ++ shows (pairs_shown (bare s)) ∷ []) first v.cells =
-      walks_on ds (shows (pairs_shown (bare s)) ∷ []) first behind_u.mid v.cells behind_u.walk (u.cells, subst (λ d. Moves (λ p. IsIn p (pairs_shown d)) behind_u.mid u.cells) same behind_u.moves, x.cells) in
+      walks_on ds (shows (pairs_shown (bare s)) ∷ []) first behind_u.mid v.cells behind_u.walk (u.cells, subst (λ d. Moves (λ p. IsIn p (pairs_shown d)) behind_u.mid u.cells) same behind_u.moves, sym x.cells) in
       record {
         deeds = shows (pairs_shown (bare s)) ∷ [];
         stepped = (replies, is, subst (λ d. Arrives r d replies (bare new)) same (subst (Arrives r (bare u) replies) (sym (quiet_bare v new q')) stepped), refl);

@@ -34,7 +34,7 @@ module _ (x : ℕ) where
         record {
           cell = r.cell;
           walk = subst (λ l. Walks (DoneAt x) l first r.cell) (sym (few_append None ds (pairs_shown s) [] ∙ append-nil (few ds))) r.walk;
-          near = subst (λ y. Near x u y r.cell) (sym v.2) (near_on x s u v.0 r.cell stay n);
+          near = subst (λ y. Near x u y r.cell) v.2 (near_on x s u v.0 r.cell stay n);
         }
 
     pub follow_done : (reply : Reply) (deed : Deed) → AreOwn s.tasks → TaskDone s reply deed u → Follows first ds s → Follows first (ds ++ shows (pairs_shown s) ∷ deed ∷ []) u
@@ -48,7 +48,7 @@ module _ (x : ℕ) where
         let more : Walks (DoneAt x) (few ds ++ deed ∷ []) first e.last = on x (few ds) (deed ∷ []) first r.cell e.last r.walk (e.last, e.done, refl) in
         let is : few (ds ++ shows (pairs_shown s) ∷ deed ∷ []) ≡ few ds ++ deed ∷ [] =
         few_append None ds (pairs_shown s) (deed ∷ []) ∙ ap (λ l. few ds ++ l) (few_done (d.task).command s d.task d.blocks deed (pairs_shown s) d.done) in
-        record { cell = e.last; walk = subst (λ l. Walks (DoneAt x) l first e.last) (sym is) more; near = subst (λ z. Near x u z e.last) (sym y.2) e.near }
+        record { cell = e.last; walk = subst (λ l. Walks (DoneAt x) l first e.last) (sym is) more; near = subst (λ z. Near x u z e.last) y.2 e.near }
 
     pub follow_powers : Follows first ds s → Follows first (ds ++ shows (pairs_shown s) ∷ powers ∷ []) u
     follow_powers f a w =
@@ -63,5 +63,5 @@ module _ (x : ℕ) where
         record {
           cell = e.last;
           walk = subst (λ l. Walks (DoneAt x) l first e.last) (sym (few_append None ds (pairs_shown s) (powers ∷ []))) more;
-          near = subst (λ z. Near x u z e.last) (sym y.2) e.near;
+          near = subst (λ z. Near x u z e.last) y.2 e.near;
         }

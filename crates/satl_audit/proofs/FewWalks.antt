@@ -14,7 +14,7 @@ use Rattle.satl_audit.specs.Skeleton.{DoneAs}
 
 module _ (x : ℕ) where
   pub on : (ds es : List Deed) (a b c : Cell) → Walks (DoneAt x) ds a b → Walks (DoneAt x) es b c → Walks (DoneAt x) (ds ++ es) a c
-  on [] es a b c p q = subst (λ y. Walks (DoneAt x) es y c) p q
+  on [] es a b c p q = subst (λ y. Walks (DoneAt x) es y c) (sym p) q
   on (d ∷ ds) es a b c p q = (p.0, p.1, on ds es p.0 b c p.2 q)
 
   pub record Cut (ds es : List Deed) (a c : Cell) : Type 0 where

@@ -55,14 +55,14 @@ module _ (s bared : Device) (now : List Answer) (cells : List Cell) (h : IsSane 
         sane = x.sane;
       }
 
-  order_made : (order : _) → now ≡ [] → bared ≡ bare s → cells ≡ s.cells → EventMade (frames.Bench (events.Order order)) s now cells bared
+  order_made : (order : _) → now ≡ [] → bared ≡ bare s → s.cells ≡ cells → EventMade (frames.Bench (events.Order order)) s now cells bared
   order_made order is e c = record {
     new = s;
     deep = depth s;
     does = ([], is, record { before = s; after = s; quiet_before = quiet_none s; step = record { none = refl; new_is = refl }; quiet_after = quiet_none s }, refl);
     no_loss = refl;
     bared_is = sym e;
-    cells_are = sym c;
+    cells_are = c;
     sane = h;
   }
 
@@ -79,7 +79,7 @@ module _ (s bared : Device) (now : List Answer) (cells : List Cell) (h : IsSane 
         does = ([], is, record { before = u; after = new; quiet_before = q; step = record { none = refl; cells = rest.1; stays = refl }; quiet_after = quiet_none new }, refl);
         no_loss = refl;
         bared_is = sym e;
-        cells_are = sym rest.2;
+        cells_are = rest.2;
         sane = sane_on powers u new rest.1 refl refl sane_u.glitches refl tt sane_u;
       }
 
@@ -94,7 +94,7 @@ module _ (s bared : Device) (now : List Answer) (cells : List Cell) (h : IsSane 
   pub event_made : (event : Frame) (deeds : List Deed) → is_known_frame s.identity.trim event ≡ true → Stepped event (bare s) now deeds bared → Walks DoneBy deeds s.cells cells → EventMade event s now cells bared
   event_made (frames.Request r) deeds k e w =
       let v : Walks DoneBy (shows (pairs_shown (bare s)) ∷ []) s.cells cells = subst (λ l. Walks DoneBy l s.cells cells) e.3 w in
-      request_made r e.0 (and_parts (is_unit_0 r.lun) (is_known (says r.cdb s.identity.trim)) k).1 e.1 e.2 (subst (Moves (λ p. IsIn p (pairs_shown (bare s))) s.cells) (sym v.2) v.1)
+      request_made r e.0 (and_parts (is_unit_0 r.lun) (is_known (says r.cdb s.identity.trim)) k).1 e.1 e.2 (subst (Moves (λ p. IsIn p (pairs_shown (bare s))) s.cells) v.2 v.1)
   event_made (frames.Manage m) deeds k e w = absurd cc
   event_made (frames.Turn n) deeds k e w =
       let t = turns_made s h e.2 cells w in

@@ -50,7 +50,7 @@ run_more first all answers now cells new_cells s new event deeds k e w m =
     }
 
 pub run_made : (first : Device) → IsSane first → {all : List Frame} {answers : List Answer} {deeds : List Deed} {last : Device} → Skeleton (bare first) all answers deeds last → AllKnown first.identity.trim all → (cells : List Cell) → Walks DoneBy deeds first.cells cells → RunMade first all answers cells last
-run_made first h begin k cells w = record { last = first; groups = []; losses = 0; deep = 0; run = start (quiet_none first); none = refl; answers_are = refl; bared_is = refl; cells_are = sym w; sane = h; same = refl }
+run_made first h begin k cells w = record { last = first; groups = []; losses = 0; deep = 0; run = start (quiet_none first); none = refl; answers_are = refl; bared_is = refl; cells_are = w; sane = h; same = refl }
 run_made first h {last = last} (further {all = all} {answers = answers} {deeds = deeds} {s = s} event now more so_far e) k cells w =
     let r = walks_split deeds more first.cells cells w in
     run_more first all answers now r.mid cells s last event more (all_last (λ f. is_known_frame first.identity.trim f ≡ true) all event k) e r.after

@@ -25,7 +25,7 @@ use Rattle.satl_audit.proofs.Showing.{may_of_moves, moves_of_may}
 -- ---- walks
 
 pub walks_on : (ds es : List Deed) (a b c : List Cell) → Walks DoneBy ds a b → Walks DoneBy es b c → Walks DoneBy (ds ++ es) a c
-walks_on [] es a b c p q = subst (λ x. Walks DoneBy es x c) p q
+walks_on [] es a b c p q = subst (λ x. Walks DoneBy es x c) (sym p) q
 walks_on (d ∷ ds) es a b c p q = (p.0, p.1, walks_on ds es p.0 b c p.2 q)
 
 pub record WalkSplit (ds es : List Deed) (a c : List Cell) : Type 0 where

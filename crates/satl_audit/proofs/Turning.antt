@@ -92,12 +92,12 @@ turns_more n s replies cells mid bared reply deed new_cells d w m =
       deep = max m.deep (depth t.new);
       turns = TurnsOf.more m.turns (record { before = before; after = t.new; quiet_before = q; step = ends reply t.ends; quiet_after = quiet_none t.new });
       bared_is = t.bared_is;
-      cells_are = t.cells_are ∙ sym rest.2;
+      cells_are = t.cells_are ∙ rest.2;
       sane = t.sane;
     }
 
 pub turns_made : (s : Device) → IsSane s → {n : ℕ} {replies : List Reply} {deeds : List Deed} {bared : Device} → TurnsDone (bare s) n replies deeds bared → (cells : List Cell) → Walks DoneBy deeds s.cells cells → TurnsMade n s replies cells bared
-turns_made s h TurnsDone.none cells w = record { new = s; deep = 0; turns = TurnsOf.none; bared_is = refl; cells_are = sym w; sane = h }
+turns_made s h TurnsDone.none cells w = record { new = s; deep = 0; turns = TurnsOf.none; bared_is = refl; cells_are = w; sane = h }
 turns_made s h {bared = bared} (TurnsDone.idle {n = n} {replies = replies} t e) cells w = turns_idle n s replies cells bared e (turns_made s h t cells w)
 turns_made s h {bared = bared} (TurnsDone.more {n = n} {replies = replies} {deeds = deeds} {mid = mid} reply deed t d) cells w =
     let r = walks_split deeds (shows (pairs_shown mid) ∷ deed ∷ []) s.cells cells w in
