@@ -1,7 +1,6 @@
 //! Reading a command out of its registers.
 
-ghost use Rattle.std.specs.Prelude.{◌≡◌, ◌↔◌, ◌+◌, ◌*◌, ◌^◌, ◌==◌, ◌&&◌, IsNone};
-ghost use Rattle.satl_base.specs.Fields.{bits_of};
+ghost use Rattle.std.specs.Prelude.{◌≡◌, ◌↔◌, ◌==◌, ◌&&◌, IsNone};
 ghost use Rattle.satl_regs.specs.Commands.{command_in, command_row, is_ext, read_row, read_log_row, smart_row, trim_row, verify_row, write_row};
 
 use crate::codes::{
