@@ -1,8 +1,10 @@
-// Bytes that are put together, and their sum.
-ghost use Rattle.std.specs.Prelude.{◌≡◌, ◌≤◌, ◌+◌, ◌++◌, length};
+// Bytes and ranges that are put together, and the sum of bytes.
+ghost use Rattle.std.specs.Prelude.{◌≡◌, ◌≤◌, ◌<◌, ◌+◌, ◌++◌, [], ◌∷◌, filter, length};
 ghost use Rattle.arrayvec.specs.ArrayVec.{array_vec_len};
+ghost use Rattle.satl_base.specs.Blocks.{is_used};
 ghost use Rattle.satl_base.specs.Identify.{checksum};
 
+use crate::block::Range;
 use arrayvec::ArrayVec;
 
 /// Appends bytes for which there is room.
@@ -14,6 +16,18 @@ pub fn append<const N: usize>(bytes: &mut ArrayVec<u8, N>, more: &[u8])
     let Ok(()) = bytes.try_extend_from_slice(more) else {
         unreachable!();
     };
+}
+
+/// Appends a range for which there is room, unless it has no blocks: such an entry of a list is not used (SBC-3, UNMAP; ACS-3,
+/// DATA SET MANAGEMENT).
+pub fn push_used<const N: usize>(ranges: &mut ArrayVec<Range, N>, range: Range)
+    requires { array_vec_len ranges.old < N }
+    ensures items { ranges.new.items ≡ ranges.old.items ++ filter is_used (range ∷ []) }
+    ensures len { array_vec_len ranges.new ≤ array_vec_len ranges.old + 1 }
+{
+    if range.count != 0 {
+        ranges.push(range);
+    }
 }
 
 /// The sum of 512 bytes modulo 256, which is 0 in IDENTIFY DEVICE data with an integrity word and in a log (ACS-3 7.12.7).

@@ -17,7 +17,7 @@ mod steps;
 
 pub use bench::{BenchEvent, OrderBytes, Which};
 pub use block::{Block, Range};
-pub use bytes::{append, checksum_of};
+pub use bytes::{append, checksum_of, push_used};
 pub use lender::Lender;
 pub use limits::{
     INPUT_LIMIT, LONGEST_DATA, MOST_COVERED, MOST_HELD, MOST_MOVED, MOST_RANGES, MOST_TASKS,

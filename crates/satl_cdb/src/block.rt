@@ -4,10 +4,12 @@ ghost use Rattle.std.specs.Prelude.{◌≡◌, Ok};
 ghost use Rattle.satl_cdb.specs.Rows.{format_says, unless_broken};
 ghost use Rattle.satl_cdb.specs.BlockCommands.{layout_of, read, read_6, write, write_6, transfer_rules, verify, synchronize_cache, write_same, unmap, start_stop, read_capacity_16};
 
+use crate::codes::READ_CAPACITY_16;
 use crate::command::{Command, Form, Illegal};
 use crate::fields::{count_of, count_place, flag, lba_of, u16_at, u32_at};
 use satl_base::{MOST_COVERED, MOST_MOVED};
 
+/// READ (6) (SBC-3).
 pub fn read_6_of(cdb: &[u8; 16]) -> Command
     ensures { format_says read_6 cdb.now ≡ Ok result }
 {
@@ -19,6 +21,7 @@ pub fn read_6_of(cdb: &[u8; 16]) -> Command
     }
 }
 
+/// WRITE (6) (SBC-3).
 pub fn write_6_of(cdb: &[u8; 16]) -> Command
     ensures { format_says write_6 cdb.now ≡ Ok result }
 {
@@ -30,7 +33,7 @@ pub fn write_6_of(cdb: &[u8; 16]) -> Command
     }
 }
 
-/// Checks what READ and WRITE have in common.
+// What READ and WRITE have in common: RDPROTECT or WRPROTECT, and the most blocks.
 fn check_transfer(cdb: &[u8; 16], form: Form) -> Result<(), Illegal>
     ensures { result ≡ unless_broken (transfer_rules (layout_of form)) cdb.now tt }
 {
@@ -44,6 +47,7 @@ fn check_transfer(cdb: &[u8; 16], form: Form) -> Result<(), Illegal>
     Ok(())
 }
 
+/// READ (10), (12) or (16), or its refusal (SBC-3).
 pub fn read_of(cdb: &[u8; 16], form: Form) -> Result<Command, Illegal>
     ensures { result ≡ format_says (read (layout_of form)) cdb.now }
 {
@@ -56,6 +60,7 @@ pub fn read_of(cdb: &[u8; 16], form: Form) -> Result<Command, Illegal>
     })
 }
 
+/// WRITE (10), (12) or (16), or its refusal (SBC-3).
 pub fn write_of(cdb: &[u8; 16], form: Form) -> Result<Command, Illegal>
     ensures { result ≡ format_says (write (layout_of form)) cdb.now }
 {
@@ -68,6 +73,7 @@ pub fn write_of(cdb: &[u8; 16], form: Form) -> Result<Command, Illegal>
     })
 }
 
+/// VERIFY (10), (12) or (16), or its refusal (SBC-3).
 pub fn verify_of(cdb: &[u8; 16], form: Form) -> Result<Command, Illegal>
     ensures { result ≡ format_says (verify (layout_of form)) cdb.now }
 {
@@ -90,6 +96,7 @@ pub fn verify_of(cdb: &[u8; 16], form: Form) -> Result<Command, Illegal>
     })
 }
 
+/// SYNCHRONIZE CACHE (10) or (16) (SBC-3).
 pub fn synchronize_cache_of(cdb: &[u8; 16], form: Form) -> Command
     ensures { format_says (synchronize_cache (layout_of form)) cdb.now ≡ Ok result }
 {
@@ -100,6 +107,7 @@ pub fn synchronize_cache_of(cdb: &[u8; 16], form: Form) -> Command
     }
 }
 
+/// WRITE SAME (10) or (16), on a drive with or without trim, or its refusal (SBC-3).
 pub fn write_same_of(cdb: &[u8; 16], trim: bool, form: Form) -> Result<Command, Illegal>
     ensures { result ≡ format_says (write_same trim (layout_of form)) cdb.now }
 {
@@ -122,13 +130,15 @@ pub fn write_same_of(cdb: &[u8; 16], trim: bool, form: Form) -> Result<Command, 
     })
 }
 
+/// UNMAP, on a drive with or without trim, or its refusal (SBC-3).
 pub fn unmap_of(cdb: &[u8; 16], trim: bool) -> Result<Command, Illegal>
     ensures { result ≡ format_says (unmap trim) cdb.now }
 {
     if !trim {
         return Err(Illegal::invalid_operation_code());
     }
-    if flag(cdb, 1, 0) {
+    let anchor = flag(cdb, 1, 0);
+    if anchor {
         return Err(Illegal::invalid_field(1));
     }
     Ok(Command::Unmap {
@@ -136,6 +146,7 @@ pub fn unmap_of(cdb: &[u8; 16], trim: bool) -> Result<Command, Illegal>
     })
 }
 
+/// START STOP UNIT, or its refusal (SBC-3).
 pub fn start_stop_of(cdb: &[u8; 16]) -> Result<Command, Illegal>
     ensures { result ≡ format_says start_stop cdb.now }
 {
@@ -150,11 +161,12 @@ pub fn start_stop_of(cdb: &[u8; 16]) -> Result<Command, Illegal>
     })
 }
 
+/// READ CAPACITY (16), or its refusal (SBC-3).
 pub fn read_capacity_16_of(cdb: &[u8; 16]) -> Result<Command, Illegal>
     ensures { result ≡ format_says read_capacity_16 cdb.now }
 {
     let service_action = cdb[1] & 0x1F;
-    if service_action != 0x10 {
+    if service_action != READ_CAPACITY_16 {
         return Err(Illegal::invalid_field(1));
     }
     Ok(Command::ReadCapacity16 {

@@ -3,84 +3,139 @@
 /// The length of a command descriptor block: 6, 10, 12 or 16 bytes (SPC-4 4.3).
 #[derive(Clone, Copy, Debug, PartialEq, Eq)]
 pub enum Form {
+    /// 6 bytes: the address has 21 bits, the count 8, in which 0 means 256.
     Six,
+    /// 10 bytes: the address has 32 bits, the count 16.
     Ten,
+    /// 12 bytes: the address has 32 bits, the count 32.
     Twelve,
+    /// 16 bytes: the address has 64 bits, the count 32.
     Sixteen,
 }
 
 /// A command with its fields (SPC-4 6, SBC-3 5, SAT-3 12.2). Counts are of logical blocks, lengths of bytes.
 #[derive(Clone, Copy, Debug, PartialEq, Eq)]
 pub enum Command {
+    /// TEST UNIT READY (SPC-4).
     TestUnitReady,
+    /// REQUEST SENSE (SPC-4 6.39).
     RequestSense {
+        /// DESC: sense data in the descriptor form, and not in the fixed one.
         descriptor: bool,
+        /// ALLOCATION LENGTH, in bytes.
         alloc: u8,
     },
-    /// The standard data, or the VPD page.
+    /// INQUIRY (SPC-4 6.6).
     Inquiry {
+        /// PAGE CODE of vital product data where EVPD is 1, and `None` where it is 0: the standard data.
         page: Option<u8>,
+        /// ALLOCATION LENGTH, in bytes.
         alloc: u16,
     },
+    /// MODE SENSE (6) or, with `ten`, MODE SENSE (10) (SPC-4, commands of these names).
     ModeSense {
+        /// The command is the one of 10 bytes.
         ten: bool,
+        /// LLBAA: a block descriptor may have 64 bits of LBA. It is false in MODE SENSE (6).
         long_lba: bool,
+        /// DBD: no block descriptor.
         no_descriptor: bool,
+        /// PC, 0 to 2: current, changeable or default values.
         control: u8,
+        /// PAGE CODE, with 3Fh for all pages.
         page: u8,
+        /// ALLOCATION LENGTH, in bytes.
         alloc: u16,
     },
+    /// MODE SELECT (6) or, with `ten`, MODE SELECT (10) (SPC-4, commands of these names).
     ModeSelect {
+        /// The command is the one of 10 bytes.
         ten: bool,
+        /// PARAMETER LIST LENGTH, in bytes.
         length: u16,
     },
+    /// START STOP UNIT (SBC-3).
     StartStop {
+        /// START: to be started, and not stopped.
         start: bool,
+        /// NO_FLUSH: the cache is not written back.
         no_flush: bool,
     },
+    /// READ CAPACITY (10) (SBC-3).
     ReadCapacity10,
+    /// READ CAPACITY (16) (SBC-3).
     ReadCapacity16 {
+        /// ALLOCATION LENGTH, in bytes.
         alloc: u32,
     },
+    /// REPORT LUNS (SPC-4 6.33).
     ReportLuns {
+        /// SELECT REPORT, 0 to 2.
         select: u8,
+        /// ALLOCATION LENGTH, in bytes.
         alloc: u32,
     },
+    /// READ (SBC-3, READ (6) to READ (16)).
     Read {
+        /// The length of the CDB.
         form: Form,
+        /// LOGICAL BLOCK ADDRESS of the first block.
         lba: u64,
+        /// TRANSFER LENGTH, in blocks.
         count: u32,
+        /// FUA: the blocks on the medium. It is false in READ (6).
         fua: bool,
     },
+    /// WRITE (SBC-3, WRITE (6) to WRITE (16)).
     Write {
+        /// The length of the CDB.
         form: Form,
+        /// LOGICAL BLOCK ADDRESS of the first block.
         lba: u64,
+        /// TRANSFER LENGTH, in blocks.
         count: u32,
+        /// FUA: past the cache. It is false in WRITE (6).
         fua: bool,
     },
+    /// VERIFY (SBC-3, VERIFY (10), (12) and (16)).
     Verify {
+        /// The length of the CDB.
         form: Form,
+        /// LOGICAL BLOCK ADDRESS of the first block.
         lba: u64,
+        /// VERIFICATION LENGTH, in blocks.
         count: u32,
+        /// BYTCHK is 1, and not 0: the blocks are compared with data-out.
         compare: bool,
     },
-    /// SYNCHRONIZE CACHE.
+    /// SYNCHRONIZE CACHE (SBC-3, SYNCHRONIZE CACHE (10) and (16)).
     Flush {
+        /// The length of the CDB.
         form: Form,
+        /// LOGICAL BLOCK ADDRESS of the first block.
         lba: u64,
+        /// NUMBER OF LOGICAL BLOCKS, in blocks; 0 means all from the address on.
         count: u32,
     },
+    /// WRITE SAME (SBC-3, WRITE SAME (10) and (16)).
     WriteSame {
+        /// The length of the CDB.
         form: Form,
+        /// LOGICAL BLOCK ADDRESS of the first block.
         lba: u64,
+        /// NUMBER OF LOGICAL BLOCKS, in blocks.
         count: u32,
+        /// UNMAP: the blocks may be unmapped.
         unmap: bool,
     },
+    /// UNMAP (SBC-3).
     Unmap {
+        /// PARAMETER LIST LENGTH, in bytes.
         length: u16,
     },
-    /// ATA PASS-THROUGH, by its bytes. Those that the command does not have are zero.
+    /// ATA PASS-THROUGH (SAT-3, ATA PASS-THROUGH (12) and (16)).
     Pass {
+        /// Its bytes. Those that the command does not have are zero, and so is the control byte.
         cdb: [u8; 16],
     },
 }

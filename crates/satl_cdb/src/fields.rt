@@ -9,6 +9,7 @@ ghost use Rattle.satl_cdb.specs.PrimaryCommands.{desc, evpd, mode_length};
 use crate::command::Form;
 use byteorder::{BigEndian, ByteOrder};
 
+/// The number in two bytes from a place on, the first the highest (SPC-4 3.5).
 pub fn u16_at(cdb: &[u8; 16], at: usize) -> u16
     requires { at + 2 ≤ 16 }
     ensures { result ≡ big_from at 2 cdb.now }
@@ -16,6 +17,7 @@ pub fn u16_at(cdb: &[u8; 16], at: usize) -> u16
     BigEndian::read_u16(&cdb[at..])
 }
 
+/// The number in four bytes.
 pub fn u32_at(cdb: &[u8; 16], at: usize) -> u32
     requires { at + 4 ≤ 16 }
     ensures { result ≡ big_from at 4 cdb.now }
@@ -23,6 +25,7 @@ pub fn u32_at(cdb: &[u8; 16], at: usize) -> u32
     BigEndian::read_u32(&cdb[at..])
 }
 
+/// The number in eight bytes.
 pub fn u64_at(cdb: &[u8; 16], at: usize) -> u64
     requires { at + 8 ≤ 16 }
     ensures { result ≡ big_from at 8 cdb.now }
@@ -53,6 +56,7 @@ pub fn desc(cdb: &[u8; 16]) -> bool
     flag(cdb, 1, 0)
 }
 
+/// LOGICAL BLOCK ADDRESS of a command of this form (SPC-4 4.3).
 pub fn lba_of(cdb: &[u8; 16], form: Form) -> u64
     ensures { result ≡ (layout_of form).lba cdb.now }
 {
@@ -63,6 +67,7 @@ pub fn lba_of(cdb: &[u8; 16], form: Form) -> u64
     }
 }
 
+/// TRANSFER LENGTH, VERIFICATION LENGTH or NUMBER OF LOGICAL BLOCKS of a command of this form, in blocks (SPC-4 4.3).
 pub fn count_of(cdb: &[u8; 16], form: Form) -> u32
     ensures { result ≡ (layout_of form).count cdb.now }
 {
@@ -74,7 +79,7 @@ pub fn count_of(cdb: &[u8; 16], form: Form) -> u32
     }
 }
 
-/// 0 stands for 256 blocks.
+// The count in the form of 6 bytes: 0 stands for 256 blocks.
 fn short_count(cdb: &[u8; 16]) -> u32
     ensures { result ≡ six.count cdb.now }
 {
@@ -84,7 +89,7 @@ fn short_count(cdb: &[u8; 16]) -> u32
     }
 }
 
-/// The first byte of the count.
+/// The byte at which the count of a command of this form begins (SPC-4 4.3).
 pub fn count_place(form: Form) -> u16
     ensures { result ≡ (layout_of form).count_place }
 {
@@ -96,7 +101,7 @@ pub fn count_place(form: Form) -> u16
     }
 }
 
-/// The length in a mode command.
+/// PARAMETER LIST LENGTH or ALLOCATION LENGTH of a mode command of 10 or 6 bytes, in bytes (SPC-4, MODE SELECT and MODE SENSE).
 pub fn mode_length_of(cdb: &[u8; 16], ten: bool) -> u16
     ensures { result ≡ mode_length ten cdb.now }
 {

@@ -8,9 +8,11 @@ mod command;
 mod fields;
 pub mod laws;
 pub mod list;
+pub mod mode_page;
 mod primary;
 mod reading;
 mod unmap;
+pub mod vital_page;
 mod writing;
 
 pub use codes::{INQUIRY, REPORT_LUNS, REQUEST_SENSE};

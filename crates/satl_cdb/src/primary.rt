@@ -6,7 +6,13 @@ ghost use Rattle.satl_cdb.specs.PrimaryCommands.{request_sense, inquiry, mode_se
 
 use crate::command::{Command, Illegal};
 use crate::fields::{desc, evpd, flag, mode_length_of, u16_at, u32_at};
+use crate::mode_page::{ALL_PAGES, ALL_SUBPAGES, CACHING, CONTROL, ERROR_RECOVERY, EXCEPTIONS};
+use crate::vital_page::{
+    ATA_INFORMATION, BLOCK_LIMITS, CHARACTERISTICS, IDENTIFICATION, PROVISIONING, SERIAL_NUMBER,
+    SUPPORTED_PAGES,
+};
 
+/// REQUEST SENSE (SPC-4 6.39).
 pub fn request_sense_of(cdb: &[u8; 16]) -> Command
     ensures { format_says request_sense cdb.now ≡ Ok result }
 {
@@ -16,6 +22,7 @@ pub fn request_sense_of(cdb: &[u8; 16]) -> Command
     }
 }
 
+/// INQUIRY, or its refusal (SPC-4 6.6).
 pub fn inquiry_of(cdb: &[u8; 16]) -> Result<Command, Illegal>
     ensures { result ≡ format_says inquiry cdb.now }
 {
@@ -27,7 +34,13 @@ pub fn inquiry_of(cdb: &[u8; 16]) -> Result<Command, Illegal>
         };
     }
     match cdb[2] {
-        page @ (0x00 | 0x80 | 0x83 | 0x89 | 0xB0 | 0xB1 | 0xB2) => Ok(Command::Inquiry {
+        page @ (SUPPORTED_PAGES
+        | SERIAL_NUMBER
+        | IDENTIFICATION
+        | ATA_INFORMATION
+        | BLOCK_LIMITS
+        | CHARACTERISTICS
+        | PROVISIONING) => Ok(Command::Inquiry {
             page: Some(page),
             alloc,
         }),
@@ -35,10 +48,13 @@ pub fn inquiry_of(cdb: &[u8; 16]) -> Result<Command, Illegal>
     }
 }
 
+/// MODE SELECT (6) or (10), or its refusal (SPC-4, commands of these names).
 pub fn mode_select_of(cdb: &[u8; 16], ten: bool) -> Result<Command, Illegal>
     ensures { result ≡ format_says (mode_select ten) cdb.now }
 {
-    if !flag(cdb, 1, 4) || flag(cdb, 1, 0) {
+    let page_format = flag(cdb, 1, 4);
+    let save_pages = flag(cdb, 1, 0);
+    if !page_format || save_pages {
         return Err(Illegal::invalid_field(1));
     }
     Ok(Command::ModeSelect {
@@ -47,6 +63,7 @@ pub fn mode_select_of(cdb: &[u8; 16], ten: bool) -> Result<Command, Illegal>
     })
 }
 
+/// MODE SENSE (6) or (10), or its refusal (SPC-4, commands of these names).
 pub fn mode_sense_of(cdb: &[u8; 16], ten: bool) -> Result<Command, Illegal>
     ensures { result ≡ format_says (mode_sense ten) cdb.now }
 {
@@ -55,10 +72,13 @@ pub fn mode_sense_of(cdb: &[u8; 16], ten: bool) -> Result<Command, Illegal>
     if control == 3 {
         return Err(Illegal::saving_not_supported());
     }
-    if !matches!(page, 0x01 | 0x08 | 0x0A | 0x1C | 0x3F) {
+    if !matches!(
+        page,
+        ERROR_RECOVERY | CACHING | CONTROL | EXCEPTIONS | ALL_PAGES
+    ) {
         return Err(Illegal::invalid_field(2));
     }
-    if !matches!((page, cdb[3]), (_, 0) | (0x3F, 0xFF)) {
+    if !matches!((page, cdb[3]), (_, 0) | (ALL_PAGES, ALL_SUBPAGES)) {
         return Err(Illegal::invalid_field(3));
     }
     Ok(Command::ModeSense {
@@ -71,6 +91,7 @@ pub fn mode_sense_of(cdb: &[u8; 16], ten: bool) -> Result<Command, Illegal>
     })
 }
 
+/// REPORT LUNS, or its refusal (SPC-4 6.33).
 pub fn report_luns_of(cdb: &[u8; 16]) -> Result<Command, Illegal>
     ensures { result ≡ format_says report_luns cdb.now }
 {

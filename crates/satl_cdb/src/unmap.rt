@@ -1,7 +1,6 @@
 // The parameter list of UNMAP (SBC-3).
 
-ghost use Rattle.std.specs.Prelude.{◌≡◌, ◌≢◌, ◌<◌, ◌≤◌, ◌+◌, ◌*◌, ◌/◌, ◌++◌, [], ◌∷◌, IfOk, IfErr, IfSome, Some, None, MatchOption, MatchResult, filter, length, nat_lt, ◌==◌};
-ghost use Rattle.arrayvec.specs.ArrayVec.{array_vec_len};
+ghost use Rattle.std.specs.Prelude.{◌≡◌, ◌≢◌, ◌<◌, ◌≤◌, ◌+◌, ◌*◌, ◌/◌, IfOk, IfErr, IfSome, Some, None, MatchOption, MatchResult, filter, length, nat_lt, ◌==◌};
 ghost use Rattle.satl_base.specs.Limits.{most_ranges};
 ghost use Rattle.satl_cdb.specs.Unmap.{descriptor, descriptors_from, descriptor_fault, list_fault, number_at, ranges_of};
 ghost use Rattle.satl_base.specs.Blocks.{is_used};
@@ -9,7 +8,7 @@ ghost use Rattle.satl_base.specs.Blocks.{is_used};
 use crate::command::Illegal;
 use crate::list::{u16_at, u32_at, u64_at};
 use arrayvec::ArrayVec;
-use satl_base::{MOST_COVERED, MOST_RANGES, Pages, Range};
+use satl_base::{MOST_COVERED, MOST_RANGES, Pages, Range, push_used};
 
 #[tactic(auto, unfolding(crate::specs::Unmap::descriptor))]
 fn descriptor_at(list: &Pages, i: usize) -> Range
@@ -20,16 +19,6 @@ fn descriptor_at(list: &Pages, i: usize) -> Range
     Range {
         lba: u64_at(list, 8 + 16 * i),
         count: u32_at(list, 16 + 16 * i),
-    }
-}
-
-fn push_used(ranges: &mut ArrayVec<Range, MOST_RANGES>, range: Range)
-    requires { array_vec_len ranges.old < most_ranges }
-    ensures items { ranges.new.items ≡ ranges.old.items ++ filter is_used (range ∷ []) }
-    ensures len { array_vec_len ranges.new ≤ array_vec_len ranges.old + 1 }
-{
-    if range.count != 0 {
-        ranges.push(range);
     }
 }
 

@@ -6,7 +6,7 @@ ghost use Rattle.satl_base.specs.Places.{laid, text};
 ghost use Rattle.satl_cdb.specs.Table.{says};
 ghost use Rattle.satl_cdb.specs.Spelling.{bit_value, cdb_bytes, lines_10, lines_12, lines_16, lines_6, page_code_byte};
 
-use crate::codes::{INQUIRY, REPORT_LUNS, REQUEST_SENSE};
+use crate::codes::{INQUIRY, READ_CAPACITY_16, REPORT_LUNS, REQUEST_SENSE};
 use crate::command::{Command, Form};
 use byteorder::{BigEndian, ByteOrder};
 
@@ -71,7 +71,7 @@ fn inquiry_bytes(page: Option<u8>, alloc: u16) -> [u8; 16]
     let [high, low] = alloc.to_be_bytes();
     match page {
         None => six_bytes(INQUIRY, 0, 0, high, low),
-        Some(page) => six_bytes(INQUIRY, 1, page, high, low),
+        Some(page) => six_bytes(INQUIRY, flag_byte(0, true), page, high, low),
     }
 }
 
@@ -107,11 +107,12 @@ fn mode_sense_bytes(
 fn mode_select_bytes(ten: bool, length: u16) -> [u8; 16]
     ensures { result ≡ cdb_bytes (Command.ModeSelect ten length) }
 {
+    let page_format = flag_byte(4, true);
     let [_, low] = length.to_be_bytes();
     if ten {
-        ten_bytes(0x55, 0x10, 0, u32::from(length))
+        ten_bytes(0x55, page_format, 0, u32::from(length))
     } else {
-        six_bytes(0x15, 0x10, 0, 0, low)
+        six_bytes(0x15, page_format, 0, 0, low)
     }
 }
 
@@ -213,7 +214,7 @@ fn bytes_of(command: &Command) -> [u8; 16]
             six_bytes(0x1B, 0, 0, 0, four)
         }
         Command::ReadCapacity10 => six_bytes(0x25, 0, 0, 0, 0),
-        Command::ReadCapacity16 { alloc } => sixteen_bytes(0x9E, 0x10, 0, alloc),
+        Command::ReadCapacity16 { alloc } => sixteen_bytes(0x9E, READ_CAPACITY_16, 0, alloc),
         Command::ReportLuns { select, alloc } => report_luns_bytes(select, alloc),
         Command::Read {
             form,

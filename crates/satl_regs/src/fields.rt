@@ -20,6 +20,20 @@ pub fn low_16(number: u32) -> u16
     (number & 0xFFFF) as u16
 }
 
+/// The lowest 24 bits: LBA(23:0), which stand in LBA of a command of 28 bits too (ACS-3, 28-bit commands).
+pub fn low_24(number: u64) -> u64
+    ensures { result ≡ bits_of 23 0 number }
+{
+    number & 0xFF_FFFF
+}
+
+/// LBA(27:24) of an address, which stand in DEVICE(3:0) of a command of 28 bits (ACS-3, 28-bit commands).
+pub fn top_4_of_28(lba: u64) -> u8
+    ensures { result ≡ bits_of 27 24 lba }
+{
+    (lba >> 24 & 0x0F) as u8
+}
+
 /// A count of 8 bits, in which 0 means 256.
 fn count_8_of(count: u16) -> u32
     ensures { result ≡ count_8 count }
@@ -38,10 +52,11 @@ pub fn count_16_of(count: u16) -> u32
     if count == 0 { 65_536 } else { u32::from(count) }
 }
 
+// The LBA in 28 bits: LBA(27:24) stand in DEVICE(3:0).
 fn lba_28_of(regs: &Registers) -> u64
     ensures { result ≡ lba_28 regs.now }
 {
-    (regs.lba & 0xFF_FFFF) + u64::from(regs.device & 0x0F) * 0x100_0000
+    low_24(regs.lba) + (u64::from(regs.device & 0x0F) << 24)
 }
 
 /// The LBA, in 28 bits or in 48.

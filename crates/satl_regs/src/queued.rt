@@ -4,6 +4,9 @@ ghost use Rattle.std.specs.Prelude.{◌≡◌, ◌↔◌, Some, IsFalse, IsNone}
 ghost use Rattle.satl_base.specs.Lists.{is_in};
 ghost use Rattle.satl_regs.specs.QueuedCommands.{QueuedFits, queued_code, queued_codes, queued_fields, queued_in, queued_registers};
 
+use crate::codes::{
+    DEVICE_FUA, DEVICE_LBA, FUA_PLACE, READ_QUEUED, SEND_QUEUED, TAG_PLACE, WRITE_QUEUED,
+};
 use crate::fields::{count_16_of, low_16, low_48};
 use crate::values::{Queued, QueuedKind, Registers};
 
@@ -14,8 +17,8 @@ fn fields_of(regs: &Registers, kind: QueuedKind) -> Queued
         kind,
         lba: low_48(regs.lba),
         sectors: count_16_of(regs.features),
-        tag: (regs.count >> 3 & 0x1F) as u8,
-        fua: regs.device >> 7 & 1 == 1,
+        tag: (regs.count >> TAG_PLACE & 0x1F) as u8,
+        fua: regs.device >> FUA_PLACE & 1 == 1,
     }
 }
 
@@ -28,9 +31,9 @@ pub fn queued_of(regs: &Registers) -> Option<Queued>
     ensures none { IsNone result ↔ IsFalse (is_in regs.now.command queued_codes) }
 {
     match regs.command {
-        0x60 => Some(fields_of(regs, QueuedKind::Read)),
-        0x61 => Some(fields_of(regs, QueuedKind::Write)),
-        0x64 => Some(fields_of(regs, QueuedKind::Trim)),
+        READ_QUEUED => Some(fields_of(regs, QueuedKind::Read)),
+        WRITE_QUEUED => Some(fields_of(regs, QueuedKind::Write)),
+        SEND_QUEUED => Some(fields_of(regs, QueuedKind::Trim)),
         _ => None,
     }
 }
@@ -39,9 +42,9 @@ fn code_of(kind: QueuedKind) -> u8
     ensures { result ≡ queued_code kind }
 {
     match kind {
-        QueuedKind::Read => 0x60,
-        QueuedKind::Write => 0x61,
-        QueuedKind::Trim => 0x64,
+        QueuedKind::Read => READ_QUEUED,
+        QueuedKind::Write => WRITE_QUEUED,
+        QueuedKind::Trim => SEND_QUEUED,
     }
 }
 
@@ -53,9 +56,9 @@ pub fn put_queued(queued: &Queued) -> Registers
 {
     Registers {
         features: low_16(queued.sectors),
-        count: u16::from(queued.tag) << 3,
+        count: u16::from(queued.tag) << TAG_PLACE,
         lba: queued.lba,
-        device: if queued.fua { 0xC0 } else { 0x40 },
+        device: DEVICE_LBA + if queued.fua { DEVICE_FUA } else { 0 },
         command: code_of(queued.kind),
     }
 }

@@ -1,9 +1,14 @@
 //! Reading a command out of its registers.
 
-ghost use Rattle.std.specs.Prelude.{◌≡◌, ◌↔◌, ◌+◌, ◌*◌, ◌^◌, ◌==◌, ◌&&◌, IsNone};
-ghost use Rattle.satl_base.specs.Fields.{bits_of};
+ghost use Rattle.std.specs.Prelude.{◌≡◌, ◌↔◌, ◌==◌, ◌&&◌, IsNone};
 ghost use Rattle.satl_regs.specs.Commands.{command_in, command_row, is_ext, read_row, read_log_row, smart_row, trim_row, verify_row, write_row};
 
+use crate::codes::{
+    CHECK_POWER_MODE, DATA_SET_MANAGEMENT, FLUSH_CACHE, FLUSH_CACHE_EXT, IDENTIFY_DEVICE,
+    IDLE_IMMEDIATE, READ_DMA, READ_DMA_EXT, READ_LOG_EXT, READ_SECTORS, READ_SECTORS_EXT,
+    READ_VERIFY, READ_VERIFY_EXT, SET_FEATURES, SMART, SMART_RETURN_STATUS, SMART_SIGNATURE,
+    STANDBY_IMMEDIATE, TRIM, WRITE_DMA, WRITE_DMA_EXT, WRITE_SECTORS, WRITE_SECTORS_EXT,
+};
 use crate::fields::{count_16_of, lba_in, sectors_in};
 use crate::values::{AtaCommand, How, Registers};
 
@@ -63,13 +68,13 @@ fn log_in(regs: &Registers) -> AtaCommand
 fn is_trim(regs: &Registers) -> bool
     ensures { result ≡ trim_row.needs regs.now }
 {
-    regs.features & 1 == 1
+    regs.features & TRIM == TRIM
 }
 
 fn is_smart_status(regs: &Registers) -> bool
     ensures { result ≡ smart_row.needs regs.now }
 {
-    regs.features & 0xFF == 0xDA && regs.lba >> 8 & 0xFFFF == 0xC24F
+    regs.features & 0xFF == SMART_RETURN_STATUS && regs.lba >> 8 & 0xFFFF == SMART_SIGNATURE >> 8
 }
 
 #[tactic(auto, unfolding(crate::specs::Commands::command_in, crate::specs::Commands::command_row))]
@@ -77,30 +82,30 @@ fn listed_or_other(regs: &Registers) -> AtaCommand
     ensures { result ≡ command_in regs.now }
 {
     match regs.command {
-        0x20 => read_in(regs, How::Pio),
-        0x24 => read_in(regs, How::PioExt),
-        0xC8 => read_in(regs, How::Dma),
-        0x25 => read_in(regs, How::DmaExt),
-        0x30 => write_in(regs, How::Pio),
-        0x34 => write_in(regs, How::PioExt),
-        0xCA => write_in(regs, How::Dma),
-        0x35 => write_in(regs, How::DmaExt),
-        0x40 => verify_in(regs, false),
-        0x42 => verify_in(regs, true),
-        0xE7 => AtaCommand::Flush { ext: false },
-        0xEA => AtaCommand::Flush { ext: true },
-        0xEC => AtaCommand::Identify,
-        0xEF => AtaCommand::SetFeatures {
+        READ_SECTORS => read_in(regs, How::Pio),
+        READ_SECTORS_EXT => read_in(regs, How::PioExt),
+        READ_DMA => read_in(regs, How::Dma),
+        READ_DMA_EXT => read_in(regs, How::DmaExt),
+        WRITE_SECTORS => write_in(regs, How::Pio),
+        WRITE_SECTORS_EXT => write_in(regs, How::PioExt),
+        WRITE_DMA => write_in(regs, How::Dma),
+        WRITE_DMA_EXT => write_in(regs, How::DmaExt),
+        READ_VERIFY => verify_in(regs, false),
+        READ_VERIFY_EXT => verify_in(regs, true),
+        FLUSH_CACHE => AtaCommand::Flush { ext: false },
+        FLUSH_CACHE_EXT => AtaCommand::Flush { ext: true },
+        IDENTIFY_DEVICE => AtaCommand::Identify,
+        SET_FEATURES => AtaCommand::SetFeatures {
             what: (regs.features & 0xFF) as u8,
         },
-        0xE0 => AtaCommand::Standby,
-        0xE1 => AtaCommand::Idle,
-        0xE5 => AtaCommand::CheckPower,
-        0x2F => log_in(regs),
-        0x06 if is_trim(regs) => AtaCommand::Trim {
+        STANDBY_IMMEDIATE => AtaCommand::Standby,
+        IDLE_IMMEDIATE => AtaCommand::Idle,
+        CHECK_POWER_MODE => AtaCommand::CheckPower,
+        READ_LOG_EXT => log_in(regs),
+        DATA_SET_MANAGEMENT if is_trim(regs) => AtaCommand::Trim {
             blocks: count_16_of(regs.count),
         },
-        0xB0 if is_smart_status(regs) => AtaCommand::SmartStatus,
+        SMART if is_smart_status(regs) => AtaCommand::SmartStatus,
         code => AtaCommand::Other { code },
     }
 }

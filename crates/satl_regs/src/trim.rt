@@ -1,6 +1,6 @@
 //! The payload of a trim.
 
-ghost use Rattle.std.specs.Prelude.{◌≡◌, ◌+◌, ◌*◌, ◌<◌, ◌≤◌, ◌^◌, ◌++◌, [], ◌∷◌, take, drop, length};
+ghost use Rattle.std.specs.Prelude.{◌≡◌, ◌+◌, ◌*◌, ◌<◌, ◌≤◌, ◌^◌, ◌++◌, take, drop, length};
 ghost use Rattle.std.specs.List.{filter, AllByRecursion};
 ghost use Rattle.byteorder.specs.Endian.{little_bytes, little_number};
 ghost use Rattle.arrayvec.specs.ArrayVec.{array_vec_len};
@@ -10,7 +10,7 @@ ghost use Rattle.satl_base.specs.Blocks.{is_used};
 use crate::fields::low_48;
 use arrayvec::ArrayVec;
 use byteorder::{ByteOrder, LittleEndian};
-use satl_base::{Block, Range};
+use satl_base::{Block, Range, push_used};
 
 fn push_split(out: &mut ArrayVec<Range, 64>, range: Range)
     requires room { array_vec_len out.old + length (split range) ≤ 64 }
@@ -92,16 +92,6 @@ fn entry_in(block: &[u8; 512], at: usize) -> Range
     Range {
         lba: low_48(number),
         count: (number >> 48) as u32,
-    }
-}
-
-fn push_used(out: &mut ArrayVec<Range, 64>, range: Range)
-    requires { array_vec_len out.old < 64 }
-    ensures items { out.new.items ≡ out.old.items ++ filter is_used (range ∷ []) }
-    ensures len { array_vec_len out.new ≤ array_vec_len out.old + 1 }
-{
-    if range.count != 0 {
-        out.push(range);
     }
 }
 

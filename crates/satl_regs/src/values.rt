@@ -34,8 +34,11 @@ pub struct Taskfile {
 /// FPDMA QUEUED).
 #[derive(Clone, Copy, Debug, PartialEq, Eq)]
 pub enum QueuedKind {
+    /// READ FPDMA QUEUED (ACS-3).
     Read,
+    /// WRITE FPDMA QUEUED (ACS-3).
     Write,
+    /// SEND FPDMA QUEUED, with one block of ranges as its payload (profile).
     Trim,
 }
 
@@ -43,24 +46,28 @@ pub enum QueuedKind {
 /// address on, with a tag from 0 to 31. A trim has address 0 and one sector, its payload.
 #[derive(Clone, Copy, Debug, PartialEq, Eq)]
 pub struct Queued {
-    /// A read, a write or a trim.
+    /// A read, a write or a trim: COMMAND.
     pub kind: QueuedKind,
-    /// The address of the first sector; 0 of a trim.
+    /// The address of the first sector, LBA(47:0); 0 of a trim.
     pub lba: u64,
-    /// The number of sectors; of a trim that of its blocks of entries.
+    /// The number of sectors of 512 bytes, in FEATURES(15:0); of a trim that of its blocks of entries.
     pub sectors: u32,
-    /// The tag, 0 to 31.
+    /// NCQ TAG, 0 to 31: COUNT(7:3).
     pub tag: u8,
-    /// Force unit access: the write goes past the cache.
+    /// FUA, DEVICE(7): a write goes past the cache.
     pub fua: bool,
 }
 
 /// How the data of a command move: PIO or DMA, with a 28-bit or a 48-bit address (ACS-3, the names of the commands).
 #[derive(Clone, Copy, Debug, PartialEq, Eq)]
 pub enum How {
+    /// READ SECTOR(S), WRITE SECTOR(S): PIO, 28 bits.
     Pio,
+    /// READ SECTOR(S) EXT, WRITE SECTOR(S) EXT: PIO, 48 bits.
     PioExt,
+    /// READ DMA, WRITE DMA: DMA, 28 bits.
     Dma,
+    /// READ DMA EXT, WRITE DMA EXT: DMA, 48 bits.
     DmaExt,
 }
 
@@ -68,17 +75,30 @@ pub enum How {
 /// with a 28-bit address.
 #[derive(Clone, Copy, Debug, PartialEq, Eq)]
 pub enum AtaCommand {
+    /// READ SECTOR(S), READ DMA and their EXT forms: sectors from the address LBA on, as many as COUNT tells.
     Read { how: How, lba: u64, sectors: u32 },
+    /// WRITE SECTOR(S), WRITE DMA and their EXT forms: sectors from the address LBA on, as many as COUNT tells.
     Write { how: How, lba: u64, sectors: u32 },
+    /// READ VERIFY SECTOR(S) or, with `ext`, its EXT form: sectors from the address LBA on, as many as COUNT tells.
     Verify { ext: bool, lba: u64, sectors: u32 },
+    /// FLUSH CACHE or, with `ext`, FLUSH CACHE EXT.
     Flush { ext: bool },
+    /// IDENTIFY DEVICE: one block of data.
     Identify,
+    /// SET FEATURES: the subcommand, FEATURES(7:0).
     SetFeatures { what: u8 },
+    /// STANDBY IMMEDIATE.
     Standby,
+    /// IDLE IMMEDIATE.
     Idle,
+    /// CHECK POWER MODE.
     CheckPower,
+    /// READ LOG EXT: LOG ADDRESS, PAGE NUMBER, and COUNT of blocks.
     ReadLog { log: u8, page: u16, blocks: u32 },
+    /// DATA SET MANAGEMENT with TRIM: COUNT of blocks of ranges.
     Trim { blocks: u32 },
+    /// SMART RETURN STATUS.
     SmartStatus,
+    /// A command that the profile does not have: COMMAND.
     Other { code: u8 },
 }

@@ -5,17 +5,24 @@ ghost use Rattle.satl_base.specs.Fields.{bits_of};
 ghost use Rattle.satl_regs.specs.Commands.{command_in, read_code, write_code};
 ghost use Rattle.satl_regs.specs.Spelling.{CommandFits, addressed, command_registers, plain_registers};
 
-use crate::fields::low_16;
+use crate::codes::{
+    CHECK_POWER_MODE, DATA_SET_MANAGEMENT, DEVICE_LBA, FLUSH_CACHE, FLUSH_CACHE_EXT,
+    IDENTIFY_DEVICE, IDLE_IMMEDIATE, READ_DMA, READ_DMA_EXT, READ_LOG_EXT, READ_SECTORS,
+    READ_SECTORS_EXT, READ_VERIFY, READ_VERIFY_EXT, SET_FEATURES, SMART, SMART_RETURN_STATUS,
+    SMART_SIGNATURE, STANDBY_IMMEDIATE, TRIM, WRITE_DMA, WRITE_DMA_EXT, WRITE_SECTORS,
+    WRITE_SECTORS_EXT,
+};
+use crate::fields::{low_16, low_24, top_4_of_28};
 use crate::values::{AtaCommand, How, Registers};
 
 fn read_code_of(how: How) -> u8
     ensures { result ≡ read_code how }
 {
     match how {
-        How::Pio => 0x20,
-        How::PioExt => 0x24,
-        How::Dma => 0xC8,
-        How::DmaExt => 0x25,
+        How::Pio => READ_SECTORS,
+        How::PioExt => READ_SECTORS_EXT,
+        How::Dma => READ_DMA,
+        How::DmaExt => READ_DMA_EXT,
     }
 }
 
@@ -23,10 +30,10 @@ fn write_code_of(how: How) -> u8
     ensures { result ≡ write_code how }
 {
     match how {
-        How::Pio => 0x30,
-        How::PioExt => 0x34,
-        How::Dma => 0xCA,
-        How::DmaExt => 0x35,
+        How::Pio => WRITE_SECTORS,
+        How::PioExt => WRITE_SECTORS_EXT,
+        How::Dma => WRITE_DMA,
+        How::DmaExt => WRITE_DMA_EXT,
     }
 }
 
@@ -37,7 +44,7 @@ fn code_alone(code: u8) -> Registers
         features: 0,
         count: 0,
         lba: 0,
-        device: 0x40,
+        device: DEVICE_LBA,
         command: code,
     }
 }
@@ -47,8 +54,8 @@ fn put_28(code: u8, lba: u64, sectors: u32) -> Registers
 {
     Registers {
         count: (sectors & 0xFF) as u16,
-        lba: lba & 0xFF_FFFF,
-        device: 0x40 + (lba >> 24 & 0x0F) as u8,
+        lba: low_24(lba),
+        device: DEVICE_LBA + top_4_of_28(lba),
         ..code_alone(code)
     }
 }
@@ -81,7 +88,7 @@ fn put_log(log: u8, page: u16, blocks: u32) -> Registers
     Registers {
         count: low_16(blocks),
         lba,
-        ..code_alone(0x2F)
+        ..code_alone(READ_LOG_EXT)
     }
 }
 
@@ -89,9 +96,9 @@ fn put_trim(blocks: u32) -> Registers
     ensures { result ≡ plain_registers 1 (bits_of 15 0 blocks) 0 0x06 }
 {
     Registers {
-        features: 1,
+        features: TRIM,
         count: low_16(blocks),
-        ..code_alone(0x06)
+        ..code_alone(DATA_SET_MANAGEMENT)
     }
 }
 
@@ -99,9 +106,9 @@ fn put_smart_status() -> Registers
     ensures { result ≡ plain_registers 0xDA 0 (0xC24F * 2 ^ 8) 0xB0 }
 {
     Registers {
-        features: 0xDA,
-        lba: 0xC2_4F00,
-        ..code_alone(0xB0)
+        features: SMART_RETURN_STATUS,
+        lba: SMART_SIGNATURE,
+        ..code_alone(SMART)
     }
 }
 
@@ -110,7 +117,7 @@ fn put_set_features(what: u8) -> Registers
 {
     Registers {
         features: u16::from(what),
-        ..code_alone(0xEF)
+        ..code_alone(SET_FEATURES)
     }
 }
 
@@ -129,19 +136,19 @@ fn registers_of(command: &AtaCommand) -> Registers
             ext: false,
             lba,
             sectors,
-        } => put_28(0x40, lba, sectors),
+        } => put_28(READ_VERIFY, lba, sectors),
         AtaCommand::Verify {
             ext: true,
             lba,
             sectors,
-        } => put_48(0x42, lba, sectors),
-        AtaCommand::Flush { ext: false } => code_alone(0xE7),
-        AtaCommand::Flush { ext: true } => code_alone(0xEA),
-        AtaCommand::Identify => code_alone(0xEC),
+        } => put_48(READ_VERIFY_EXT, lba, sectors),
+        AtaCommand::Flush { ext: false } => code_alone(FLUSH_CACHE),
+        AtaCommand::Flush { ext: true } => code_alone(FLUSH_CACHE_EXT),
+        AtaCommand::Identify => code_alone(IDENTIFY_DEVICE),
         AtaCommand::SetFeatures { what } => put_set_features(what),
-        AtaCommand::Standby => code_alone(0xE0),
-        AtaCommand::Idle => code_alone(0xE1),
-        AtaCommand::CheckPower => code_alone(0xE5),
+        AtaCommand::Standby => code_alone(STANDBY_IMMEDIATE),
+        AtaCommand::Idle => code_alone(IDLE_IMMEDIATE),
+        AtaCommand::CheckPower => code_alone(CHECK_POWER_MODE),
         AtaCommand::ReadLog { log, page, blocks } => put_log(log, page, blocks),
         AtaCommand::Trim { blocks } => put_trim(blocks),
         AtaCommand::SmartStatus => put_smart_status(),

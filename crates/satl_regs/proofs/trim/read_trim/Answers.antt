@@ -7,7 +7,7 @@ loop-place-init c = (rw c.new-out.ensures (starts c.args.block.now.bytes), rw c.
 
 pub loop-place-preserved : goal.loop-place-preserved
 loop-place-preserved c = (
-  reads_next c.loop-place.place c.args.block.now.bytes c.entry_in-entry.result c.loop-place.out.items c.push_used.new.out.items c.loop-place-test.true c.entry_in-entry.ensures c.push_used.ensures.items c.loop-place.invariant.0,
+  reads_next c.loop-place.place c.args.block.now.bytes c.entry_in-entry.result c.loop-place.out.items c.push_used.new.ranges.items c.loop-place-test.true c.entry_in-entry.ensures c.push_used.ensures.items c.loop-place.invariant.0,
   let h = c.push_used.ensures.len in let k = c.loop-place.invariant.1 in omega arith,
 )
 
