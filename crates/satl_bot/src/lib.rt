@@ -6,5 +6,5 @@ mod status;
 #[cfg(test)]
 mod tests;
 
-pub use command::{Cbw, read_cbw};
+pub use command::{CBW_SIZE, Cbw, read_cbw};
 pub use status::csw_bytes;

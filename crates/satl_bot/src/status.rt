@@ -10,7 +10,9 @@ pub fn csw_bytes(tag: u32, residue: u32, status: u8) -> [u8; 13]
     let [tag0, tag1, tag2, tag3] = tag.to_le_bytes();
     let [residue0, residue1, residue2, residue3] = residue.to_le_bytes();
     [
-        b'U', b'S', b'B', b'S', tag0, tag1, tag2, tag3, residue0, residue1, residue2, residue3,
-        status,
+        b'U', b'S', b'B', b'S', // dCSWSignature
+        tag0, tag1, tag2, tag3, // dCSWTag
+        residue0, residue1, residue2, residue3, // dCSWDataResidue
+        status, // bCSWStatus
     ]
 }

@@ -6,7 +6,7 @@ use super::*;
 use std::test::*;
 
 /// INQUIRY of 36 bytes, under tag 1, and what its 31 bytes are but for one.
-fn inquiry_with(at: usize, byte: u8) -> [u8; 31]
+fn inquiry_with(at: usize, byte: u8) -> [u8; CBW_SIZE]
     requires { at < 31 }
 {
     let mut bytes =

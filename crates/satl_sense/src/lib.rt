@@ -1,6 +1,7 @@
 //! Sense data in the fixed and the descriptor form: writing both, and reading the latter (SPC-4 4.5, SAT-3 12.2.2.6).
 #![tactic(auto)]
 
+mod codes;
 pub mod laws;
 mod reading;
 mod sense;

@@ -5,6 +5,7 @@ ghost use Rattle.satl_base.specs.Places.{places};
 ghost use Rattle.satl_sense.specs.Fields.{ata_return_in, extra_in, sense_in};
 ghost use Rattle.satl_sense.specs.Reading.{IsDescriptorForm, IsFirstFault};
 
+use crate::codes::{ATA_SIZE, COMMAND_DATA_BIT, INFORMATION_SIZE, POINTER_SIZE, SENSE_KEY};
 use crate::sense::{AtaReturn, Extra, Sense};
 use crate::writing::sense_bytes;
 use byteorder::{BigEndian, ByteOrder};
@@ -13,6 +14,7 @@ use byteorder::{BigEndian, ByteOrder};
 /// byte past the end where it goes on (SPC-4 4.5.2).
 #[derive(Clone, Copy, Debug, PartialEq, Eq)]
 pub struct NotSense {
+    /// Its place, counted in bytes from 0.
     pub byte: u16,
 }
 
@@ -43,12 +45,12 @@ fn extra_of(text: &[u8; 22]) -> Extra
     ensures { result ≡ extra_in (slice_index text.now 7) text.now }
 {
     match text[7] {
-        0x0C => Extra::Information(BigEndian::read_u64(&text[12..])),
-        0x08 => Extra::Pointer {
-            in_cdb: text[12] >> 6 & 1 == 1,
+        INFORMATION_SIZE => Extra::Information(BigEndian::read_u64(&text[12..])),
+        POINTER_SIZE => Extra::Pointer {
+            in_cdb: text[12] >> COMMAND_DATA_BIT & 1 == 1,
             byte: BigEndian::read_u16(&text[13..]),
         },
-        0x0E => Extra::Ata(ata_return_of(text)),
+        ATA_SIZE => Extra::Ata(ata_return_of(text)),
         _ => Extra::None,
     }
 }
@@ -57,7 +59,7 @@ fn sense_of(text: &[u8; 22]) -> Sense
     ensures { result ≡ sense_in text.now }
 {
     Sense {
-        key: text[1] & 0x0F,
+        key: text[1] & SENSE_KEY,
         asc: text[2],
         ascq: text[3],
         extra: extra_of(text),

@@ -20,11 +20,18 @@ pub struct AtaReturn {
 /// What sense data say beside the key and the codes (SPC-4 4.5.2).
 #[derive(Clone, Copy, Debug, PartialEq, Eq)]
 pub enum Extra {
+    /// Nothing.
     None,
     /// The INFORMATION field: here the flawed address.
     Information(u64),
-    /// The field pointer: the byte in the CDB or in the parameter list.
-    Pointer { in_cdb: bool, byte: u16 },
+    /// The field pointer (SPC-4 4.5.2.4.2).
+    Pointer {
+        /// C/D: the byte at fault stands in the CDB, and not in the parameter list.
+        in_cdb: bool,
+        /// FIELD POINTER: its place there, counted in bytes from 0.
+        byte: u16,
+    },
+    /// The registers at the end of an ATA command (SAT-3 12.2.2.6).
     Ata(AtaReturn),
 }
 

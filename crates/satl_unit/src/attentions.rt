@@ -1,5 +1,6 @@
 // The conditions that one nexus has not been told yet.
-ghost use Rattle.std.specs.Prelude.{◌≡◌, ◌≤◌, ◌<◌, ◌++◌, [], ◌↔◌, IsSome, length, option_to_list};
+ghost use Rattle.std.specs.Prelude.{◌≡◌, ◌≤◌, ◌<◌, ◌++◌, ◌∷◌, [], ◌↔◌, IsSome, length, option_to_list, replicate};
+ghost use Rattle.satl_unit.specs.declared.attention.Attention.TheVariants as attentions;
 ghost use Rattle.satl_unit.specs.Conditions.{IsInReportOrder, posted};
 
 use crate::attention::Attention;
@@ -84,4 +85,33 @@ impl Attentions {
         }
         None
     }
+}
+
+/// The conditions of four nexuses, none of which is to be told anything (profile).
+pub fn no_attentions() -> [Attentions; 4]
+    ensures { result ≡ replicate 4 [] }
+{
+    [
+        Attentions::none(),
+        Attentions::none(),
+        Attentions::none(),
+        Attentions::none(),
+    ]
+}
+
+/// The condition of a nexus that is to be told that the power was on, and nothing else (SAM-5 6.3).
+#[tactic(auto, unfolding(crate::specs::Conditions::posted))]
+fn power_on() -> Attentions
+    ensures { result ≡ attentions.PowerOn ∷ [] }
+{
+    let mut conditions = Attentions::none();
+    conditions.post(Attention::PowerOn);
+    conditions
+}
+
+/// The conditions of four nexuses, each of which is to be told that the power was on, and nothing else (SAM-5 6.3).
+pub fn powered_on() -> [Attentions; 4]
+    ensures { result ≡ replicate 4 (attentions.PowerOn ∷ []) }
+{
+    [power_on(), power_on(), power_on(), power_on()]
 }

@@ -7,7 +7,7 @@ mod function;
 pub mod laws;
 
 pub use attention::{AdditionalSense, Attention};
-pub use attentions::Attentions;
+pub use attentions::{Attentions, no_attentions, powered_on};
 pub use function::{Function, NEXUS_RESET};
 
 #[cfg(test)]

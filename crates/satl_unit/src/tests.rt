@@ -32,6 +32,17 @@ fn conditions(rt: HostRuntime) {
 }
 
 #[test]
+fn all_nexuses(rt: HostRuntime) {
+    for posted in powered_on().iter_mut() {
+        assert_eq!(rt; posted.next(), Some(Attention::PowerOn));
+        assert_eq!(rt; posted.next(), None);
+    }
+    for posted in no_attentions().iter_mut() {
+        assert_eq!(rt; posted.next(), None);
+    }
+}
+
+#[test]
 fn functions(rt: HostRuntime) {
     let cases = [
         (0x01, Function::AbortTask),

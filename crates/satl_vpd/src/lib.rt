@@ -3,11 +3,13 @@
 #![tactic(auto)]
 
 mod capacity;
+mod codes;
 pub mod laws;
 mod lun_list;
 mod standard;
 mod text;
 mod vital;
+mod words;
 
 pub use capacity::{capacity10, capacity16};
 pub use lun_list::luns;

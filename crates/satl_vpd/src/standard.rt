@@ -3,16 +3,35 @@ ghost use Rattle.std.specs.Prelude.{◌≡◌, length};
 ghost use Rattle.satl_vpd.specs.Standard.{revision, standard_data};
 
 use crate::text::{Text, characters, is_blank};
+use crate::words::{FIRMWARE, LATE_FIRMWARE, MODEL, SHORT_MODEL_END};
 use satl_identify::Identity;
+
+/// PERIPHERAL QUALIFIER and PERIPHERAL DEVICE TYPE of a direct access block device that is there (SPC-4 6.6.2).
+const BLOCK_DEVICE: u8 = 0x00;
+
+/// The same where there is no unit at the LUN.
+const NO_UNIT: u8 = 0x7F;
+
+/// VERSION: SPC-4.
+const SPC_4: u8 = 0x06;
+
+/// RESPONSE DATA FORMAT: that of SPC-4.
+const SPC_FORMAT: u8 = 0x02;
+
+/// ADDITIONAL LENGTH: 31 of the 36 bytes stand behind that field.
+const BYTES_BEHIND: u8 = 0x1F;
+
+/// CMDQUE: tasks are queued.
+const CMDQUE: u8 = 0x02;
 
 /// Firmware characters 5 to 8, or 1 to 4 where those are spaces.
 fn revision(bytes: &[u8; 512]) -> Text
     ensures value { result.items ≡ revision bytes.now }
     ensures size { length result.items ≡ 4 }
 {
-    let late = characters(bytes, 25, 26);
+    let late = characters(bytes, LATE_FIRMWARE, LATE_FIRMWARE + 1);
     if is_blank(&late) {
-        characters(bytes, 23, 24)
+        characters(bytes, FIRMWARE, FIRMWARE + 1)
     } else {
         late
     }
@@ -26,13 +45,13 @@ pub fn inquiry(identity: &Identity, lun0: bool) -> [u8; 36]
     ensures { result ≡ standard_data identity.now lun0 }
 {
     let mut data = [0; 36];
-    data[0] = if lun0 { 0x00 } else { 0x7F };
-    data[2] = 0x06;
-    data[3] = 0x02;
-    data[4] = 0x1F;
-    data[7] = 0x02;
-    data[8..16].copy_from_slice(b"ATA     ");
-    data[16..32].copy_from_slice(&characters(&identity.bytes, 27, 34));
-    data[32..].copy_from_slice(&revision(&identity.bytes));
+    data[0] = if lun0 { BLOCK_DEVICE } else { NO_UNIT }; // PERIPHERAL QUALIFIER, PERIPHERAL DEVICE TYPE
+    data[2] = SPC_4; // VERSION
+    data[3] = SPC_FORMAT; // RESPONSE DATA FORMAT
+    data[4] = BYTES_BEHIND; // ADDITIONAL LENGTH
+    data[7] = CMDQUE;
+    data[8..16].copy_from_slice(b"ATA     "); // T10 VENDOR IDENTIFICATION
+    data[16..32].copy_from_slice(&characters(&identity.bytes, MODEL, SHORT_MODEL_END)); // PRODUCT IDENTIFICATION
+    data[32..].copy_from_slice(&revision(&identity.bytes)); // PRODUCT REVISION LEVEL
     data
 }

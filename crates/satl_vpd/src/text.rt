@@ -23,6 +23,7 @@ pub fn characters(bytes: &[u8; 512], first: usize, last: usize) -> Text
     text
 }
 
+/// Whether a text is spaces alone (SAT-3, INQUIRY command).
 pub fn is_blank(text: &[u8]) -> bool
     ensures { result ≡ is_blank text.now }
 {

@@ -5,11 +5,49 @@ ghost use Rattle.std.specs.Option.{option_map};
 ghost use Rattle.satl_base.specs.Lists.{is_in};
 ghost use Rattle.satl_vpd.specs.Vital.{ata_information, block_characteristics, block_limits, has_world_wide_name, identification, page_codes, provisioning, serial_number, vpd_page, vpd_page_bytes};
 
+use crate::codes::{
+    ATA_INFORMATION_PAGE, BLOCK_LIMITS_PAGE, CHARACTERISTICS_PAGE, IDENTIFICATION_PAGE,
+    PROVISIONING_PAGE, SERIAL_NUMBER_PAGE, SUPPORTED_VPD_PAGES,
+};
 use crate::text::characters;
+use crate::words::{
+    FORM_FACTOR, FORM_FACTOR_BITS, HAS_NAME, MODEL, MODEL_END, NAME, NAME_END, ROTATION_RATE,
+    SERIAL, SERIAL_END, SETTINGS_87,
+};
 use arrayvec::ArrayVec;
-use byteorder::{BigEndian, ByteOrder, LittleEndian};
+use byteorder::{BigEndian, ByteOrder};
 use satl_base::{MOST_COVERED, MOST_MOVED, MOST_RANGES, append};
-use satl_identify::Identity;
+use satl_identify::{Identity, bit_at, word_at};
+
+/// CODE SET of a designation descriptor: ASCII text (SPC-4, Device Identification).
+const ASCII: u8 = 0x02;
+
+/// CODE SET: bytes of any value.
+const BINARY: u8 = 0x01;
+
+/// DESIGNATOR TYPE: T10 vendor identification.
+const T10_VENDOR: u8 = 0x01;
+
+/// DESIGNATOR TYPE: NAA.
+const NAA: u8 = 0x03;
+
+/// IDENTIFY DEVICE (ACS-3 7.12).
+const IDENTIFY_DEVICE: u8 = 0xEC;
+
+/// WSNZ: a WRITE SAME of no blocks is refused (SBC-3, Block Limits).
+const WSNZ: u8 = 0x01;
+
+/// LBPU: there is UNMAP (SBC-3, Logical Block Provisioning).
+const LBPU: u8 = 0x80;
+
+/// LBPWS: WRITE SAME (16) unmaps.
+const LBPWS: u8 = 0x40;
+
+/// LBPWS10: WRITE SAME (10) unmaps.
+const LBPWS10: u8 = 0x20;
+
+/// LBPRZ: a block that was unmapped reads as zeros.
+const LBPRZ: u8 = 0x04;
 
 /// A page of vital product data, at most 572 bytes (SPC-4, Vital product data).
 pub type VitalPage = ArrayVec<u8, 576>;
@@ -20,7 +58,7 @@ fn begun(code: u8, rest: u16) -> VitalPage
 {
     let [high, low] = rest.to_be_bytes();
     let mut page = VitalPage::new();
-    append(&mut page, &[0x00, code, high, low]);
+    append(&mut page, &[0x00, code, high, low]); // PERIPHERAL DEVICE TYPE, PAGE CODE, PAGE LENGTH
     page
 }
 
@@ -28,8 +66,19 @@ fn begun(code: u8, rest: u16) -> VitalPage
 fn supported_pages() -> VitalPage
     ensures { result.items ≡ 0x00 ∷ 0x00 ∷ (bytes_high_first 2 (length page_codes) ++ page_codes) }
 {
-    let mut page = begun(0x00, 7);
-    append(&mut page, &[0x00, 0x80, 0x83, 0x89, 0xB0, 0xB1, 0xB2]);
+    let mut page = begun(SUPPORTED_VPD_PAGES, 7);
+    append(
+        &mut page,
+        &[
+            SUPPORTED_VPD_PAGES,
+            SERIAL_NUMBER_PAGE,
+            IDENTIFICATION_PAGE,
+            ATA_INFORMATION_PAGE,
+            BLOCK_LIMITS_PAGE,
+            CHARACTERISTICS_PAGE,
+            PROVISIONING_PAGE,
+        ],
+    );
     page
 }
 
@@ -37,8 +86,8 @@ fn supported_pages() -> VitalPage
 fn serial_number(identity: &Identity) -> VitalPage
     ensures { result.items ≡ vpd_page_bytes serial_number identity.now }
 {
-    let mut page = begun(0x80, 0x14);
-    append(&mut page, &characters(&identity.bytes, 10, 19));
+    let mut page = begun(SERIAL_NUMBER_PAGE, 0x14);
+    append(&mut page, &characters(&identity.bytes, SERIAL, SERIAL_END)); // PRODUCT SERIAL NUMBER
     page
 }
 
@@ -46,8 +95,7 @@ fn serial_number(identity: &Identity) -> VitalPage
 fn has_world_wide_name(bytes: &[u8; 512]) -> bool
     ensures { result ≡ has_world_wide_name bytes.now }
 {
-    let word = LittleEndian::read_u16(&bytes[2 * 87..]);
-    word >> 14 == 1 && word >> 8 & 1 == 1
+    word_at(bytes, SETTINGS_87) >> 14 == 1 && bit_at(bytes, SETTINGS_87, HAS_NAME)
 }
 
 fn identification_length(identity: &Identity) -> u16
@@ -64,14 +112,14 @@ fn identification_length(identity: &Identity) -> u16
 fn identification(identity: &Identity) -> VitalPage
     ensures { result.items ≡ vpd_page_bytes identification identity.now }
 {
-    let mut page = begun(0x83, identification_length(identity));
-    append(&mut page, &[0x02, 0x01, 0x00, 0x44]);
-    append(&mut page, b"ATA     ");
-    append(&mut page, &characters(&identity.bytes, 27, 46));
-    append(&mut page, &characters(&identity.bytes, 10, 19));
+    let mut page = begun(IDENTIFICATION_PAGE, identification_length(identity));
+    append(&mut page, &[ASCII, T10_VENDOR, 0x00, 0x44]); // CODE SET, DESIGNATOR TYPE, DESIGNATOR LENGTH
+    append(&mut page, b"ATA     "); // T10 VENDOR IDENTIFICATION
+    append(&mut page, &characters(&identity.bytes, MODEL, MODEL_END)); // VENDOR SPECIFIC IDENTIFIER: model
+    append(&mut page, &characters(&identity.bytes, SERIAL, SERIAL_END)); // and serial number
     if has_world_wide_name(&identity.bytes) {
-        append(&mut page, &[0x01, 0x03, 0x00, 0x08]);
-        append(&mut page, &characters(&identity.bytes, 108, 111));
+        append(&mut page, &[BINARY, NAA, 0x00, 0x08]); // CODE SET, DESIGNATOR TYPE, DESIGNATOR LENGTH
+        append(&mut page, &characters(&identity.bytes, NAME, NAME_END)); // DESIGNATOR
     }
     page
 }
@@ -80,14 +128,14 @@ fn identification(identity: &Identity) -> VitalPage
 fn ata_information(identity: &Identity) -> VitalPage
     ensures { result.items ≡ vpd_page_bytes ata_information identity.now }
 {
-    let mut page = begun(0x89, 0x0238);
-    append(&mut page, &[0; 4]);
-    append(&mut page, b"SATL    ");
-    append(&mut page, b"SATL REPLAY     ");
-    append(&mut page, b"0001");
-    append(&mut page, &[0; 20]);
-    append(&mut page, &[0xEC, 0, 0, 0]);
-    append(&mut page, &identity.bytes);
+    let mut page = begun(ATA_INFORMATION_PAGE, 0x0238);
+    append(&mut page, &[0; 4]); // reserved
+    append(&mut page, b"SATL    "); // SAT VENDOR IDENTIFICATION
+    append(&mut page, b"SATL REPLAY     "); // SAT PRODUCT IDENTIFICATION
+    append(&mut page, b"0001"); // SAT PRODUCT REVISION LEVEL
+    append(&mut page, &[0; 20]); // ATA DEVICE SIGNATURE
+    append(&mut page, &[IDENTIFY_DEVICE, 0, 0, 0]); // COMMAND CODE
+    append(&mut page, &identity.bytes); // ATA IDENTIFY DEVICE DATA
     page
 }
 
@@ -96,14 +144,14 @@ fn block_limits(identity: &Identity) -> VitalPage
     ensures { result.items ≡ vpd_page_bytes block_limits identity.now }
 {
     let mut bytes = [0; 64];
-    bytes[4] = 0x01; // WSNZ
+    bytes[4] = WSNZ;
     BigEndian::write_u32(&mut bytes[8..], MOST_MOVED); // MAXIMUM TRANSFER LENGTH
     if identity.trim {
         BigEndian::write_u32(&mut bytes[20..], MOST_COVERED); // MAXIMUM UNMAP LBA COUNT
         BigEndian::write_u32(&mut bytes[24..], MOST_RANGES as u32); // MAXIMUM UNMAP BLOCK DESCRIPTOR COUNT
     }
     BigEndian::write_u64(&mut bytes[36..], u64::from(MOST_COVERED)); // MAXIMUM WRITE SAME LENGTH
-    let mut page = begun(0xB0, 0x3C);
+    let mut page = begun(BLOCK_LIMITS_PAGE, 0x3C);
     append(&mut page, &bytes[4..]);
     page
 }
@@ -112,12 +160,12 @@ fn block_limits(identity: &Identity) -> VitalPage
 fn block_characteristics(identity: &Identity) -> VitalPage
     ensures { result.items ≡ vpd_page_bytes block_characteristics identity.now }
 {
-    let rotation_rate = LittleEndian::read_u16(&identity.bytes[2 * 217..]);
-    let form_factor = LittleEndian::read_u16(&identity.bytes[2 * 168..]) & 0x0F;
+    let rotation_rate = word_at(&identity.bytes, ROTATION_RATE);
+    let form_factor = word_at(&identity.bytes, FORM_FACTOR) & FORM_FACTOR_BITS;
     let mut bytes = [0; 64];
-    bytes[4..6].copy_from_slice(&rotation_rate.to_be_bytes());
-    bytes[7] = form_factor as u8;
-    let mut page = begun(0xB1, 0x3C);
+    bytes[4..6].copy_from_slice(&rotation_rate.to_be_bytes()); // MEDIUM ROTATION RATE
+    bytes[7] = form_factor as u8; // NOMINAL FORM FACTOR
+    let mut page = begun(CHARACTERISTICS_PAGE, 0x3C);
     append(&mut page, &bytes[4..]);
     page
 }
@@ -126,9 +174,13 @@ fn block_characteristics(identity: &Identity) -> VitalPage
 fn provisioning(identity: &Identity) -> VitalPage
     ensures { result.items ≡ vpd_page_bytes provisioning identity.now }
 {
-    let mut page = begun(0xB2, 0x04);
-    let flags = if identity.trim { 0xE4 } else { 0x00 };
-    append(&mut page, &[0x00, flags, 0x00, 0x00]);
+    let mut page = begun(PROVISIONING_PAGE, 0x04);
+    let flags = if identity.trim {
+        LBPU | LBPWS | LBPWS10 | LBPRZ
+    } else {
+        0x00
+    };
+    append(&mut page, &[0x00, flags, 0x00, 0x00]); // THRESHOLD EXPONENT, the flags, PROVISIONING TYPE
     page
 }
 
@@ -140,13 +192,13 @@ pub fn vpd(identity: &Identity, page: u8) -> Option<VitalPage>
     ensures variant { IsSome result ↔ IsTrue (is_in page page_codes) }
 {
     match page {
-        0x00 => Some(supported_pages()),
-        0x80 => Some(serial_number(identity)),
-        0x83 => Some(identification(identity)),
-        0x89 => Some(ata_information(identity)),
-        0xB0 => Some(block_limits(identity)),
-        0xB1 => Some(block_characteristics(identity)),
-        0xB2 => Some(provisioning(identity)),
+        SUPPORTED_VPD_PAGES => Some(supported_pages()),
+        SERIAL_NUMBER_PAGE => Some(serial_number(identity)),
+        IDENTIFICATION_PAGE => Some(identification(identity)),
+        ATA_INFORMATION_PAGE => Some(ata_information(identity)),
+        BLOCK_LIMITS_PAGE => Some(block_limits(identity)),
+        CHARACTERISTICS_PAGE => Some(block_characteristics(identity)),
+        PROVISIONING_PAGE => Some(provisioning(identity)),
         _ => None,
     }
 }
