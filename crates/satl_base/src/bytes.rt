@@ -1,7 +1,7 @@
-// Bytes and ranges that are put together, and the sum of bytes.
+// Bytes and ranges that are put together, the sum of bytes, and whether they are zeros.
 ghost use Rattle.std.specs.Prelude.{◌≡◌, ◌≤◌, ◌<◌, ◌+◌, ◌++◌, [], ◌∷◌, filter, length};
 ghost use Rattle.arrayvec.specs.ArrayVec.{array_vec_len};
-ghost use Rattle.satl_base.specs.Blocks.{is_used};
+ghost use Rattle.satl_base.specs.Blocks.{is_used, is_zeros};
 ghost use Rattle.satl_base.specs.Identify.{checksum};
 
 use crate::block::Range;
@@ -28,6 +28,13 @@ pub fn push_used<const N: usize>(ranges: &mut ArrayVec<Range, N>, range: Range)
     if range.count != 0 {
         ranges.push(range);
     }
+}
+
+/// Whether all the bytes are zeros, as those of LUN 0 are, and those of the block of a WRITE SAME that unmaps (profile).
+pub fn are_zeros(bytes: &[u8]) -> bool
+    ensures { result ≡ is_zeros bytes.now }
+{
+    bytes.iter().all(|byte| *byte == 0)
 }
 
 /// The sum of 512 bytes modulo 256, which is 0 in IDENTIFY DEVICE data with an integrity word and in a log (ACS-3 7.12.7).
