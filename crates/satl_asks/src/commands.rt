@@ -1,5 +1,5 @@
 // What a command goes over, needs and holds, and what is wrong with its fields.
-ghost use Rattle.std.specs.Prelude.{◌≡◌, ◌⊎◌, ◌≤◌, ◌*◌, ◌∷◌, [], IfNone, length, if◌then◌else◌};
+ghost use Rattle.std.specs.Prelude.{◌≡◌, ◌⊎◌, ◌≤◌, ◌*◌, IfNone, length, if◌then◌else◌};
 ghost use Rattle.satl_frame.specs.DataPages.{page_count};
 ghost use Rattle.satl_cdb.specs.Unmap as unmap;
 ghost use Rattle.satl_direct.specs.Tasks.{asks, held_blocks, needed, range_of};

@@ -1,5 +1,5 @@
 // What a request says beside its command.
-ghost use Rattle.std.specs.Prelude.{◌≡◌, ◌+◌, nat_lt};
+ghost use Rattle.std.specs.Prelude.{◌≡◌};
 ghost use Rattle.satl_base.specs.Lists.{is_in};
 ghost use Rattle.satl_direct.specs.Arrival.{is_unit_0, codes_before_attentions};
 ghost use Rattle.satl_direct.specs.Tasks.{is_ordered};

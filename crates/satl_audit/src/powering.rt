@@ -1,5 +1,5 @@
 // The power is lost.
-ghost use Rattle.std.specs.Prelude.{◌≡◌, ◌≤◌, ◌<◌, ◌+◌, ◌^◌, OnOk, List, ℕ, [], ◌∷◌, length, map, replicate};
+ghost use Rattle.std.specs.Prelude.{◌≡◌, ◌<◌, ◌+◌, ◌^◌, OnOk, List, ℕ, [], ◌∷◌, length, map, replicate};
 ghost use Rattle.satl_base.specs.declared.bench.BenchEvent.TheVariants as events;
 ghost use Rattle.satl_frame.specs.declared.frames.Frame.TheVariants as frames;
 ghost use Rattle.satl_identify.specs.declared.identity.Identity.{Identity};

@@ -1,8 +1,8 @@
 // The parameter list of UNMAP (SBC-3).
 
-ghost use Rattle.std.specs.Prelude.{◌≡◌, ◌≢◌, ◌<◌, ◌≤◌, ◌+◌, ◌*◌, ◌/◌, IfOk, IfErr, IfSome, Some, None, MatchOption, MatchResult, filter, length, nat_lt, ◌==◌};
+ghost use Rattle.std.specs.Prelude.{◌≡◌, ◌<◌, ◌≤◌, ◌+◌, ◌*◌, ◌/◌, IfOk, IfErr, Some, None, filter, length};
 ghost use Rattle.satl_base.specs.Limits.{most_ranges};
-ghost use Rattle.satl_cdb.specs.Unmap.{descriptor, descriptors_from, descriptor_fault, list_fault, number_at, ranges_of};
+ghost use Rattle.satl_cdb.specs.Unmap.{descriptor, descriptors_from, descriptor_fault, list_fault, ranges_of};
 ghost use Rattle.satl_base.specs.Blocks.{is_used};
 
 use crate::command::Illegal;

@@ -1,13 +1,12 @@
 -- What is known of a command by the bytes of its CDB.
 use Rattle.std.proofs.Common.{◌≡◌, refl, subst, arith, cond, ℕ, ◌<◌, ◌≤◌, Bool, true, false, List, [], ◌∷◌}
-use Rattle.std.specs.Prelude.{Some, Ok, Err, not, ◌==◌, nat_lt, slice_index}
+use Rattle.std.specs.Prelude.{Some, Ok, Err, ◌==◌, nat_lt, slice_index}
 use Rattle.std.specs.List.{AllByRecursion, find}
 use Rattle.std.specs.Option.{option_map, option_map_or}
 use Rattle.std.proofs.lemmas.Bool.{eqb-false, eqb-true, ltb-false, not-false}
 use Rattle.satl_base.specs.Fields.{bit, bits, bytes}
 use Rattle.satl_cdb.specs.declared.command.Command.{Command}
 use Rattle.satl_cdb.specs.declared.command.Command.TheVariants as cdbs
-use Rattle.satl_cdb.specs.Refusals.{invalid_field}
 use Rattle.satl_cdb.specs.Rows.{Format, Row, Rule, broken_rule, found_says, format_of, format_says, never, unless_broken}
 use Rattle.satl_cdb.specs.BlockCommands.{Layout, read, read_6, read_capacity_10, read_capacity_16, six, sixteen, start_stop, synchronize_cache, ten, transfer_rules, twelve, unmap, verify, write, write_6, write_same}
 use Rattle.satl_cdb.specs.PrimaryCommands.{inquiry, mode_length, mode_select, mode_sense, report_luns, request_sense, test_unit_ready}

@@ -1,6 +1,5 @@
 // What task management functions do.
 ghost use Rattle.std.specs.Prelude.{◌≡◌, Some};
-ghost use Rattle.satl_unit.specs.Conditions.{posted};
 ghost use Rattle.satl_direct.specs.Management.{found, has_unit};
 ghost use Rattle.satl_core.specs.Managing.{condition_of, effect, effect_of, is_told, once_posted, response_alone, with_posted};
 

@@ -1,5 +1,5 @@
 // The layer: what it holds, how it is opened, and the pages that it lends.
-ghost use Rattle.std.specs.Prelude.{◌≡◌, ◌≤◌, ◌+◌, ◌-◌, ◌<◌, ◌↔◌, ◌≢◌, ◌*◌, [], Ok, None, true, false, IfOk, IfErr, IfSome, IfNone, IsNone, OnOk, OnErr, OnSome, map, length};
+ghost use Rattle.std.specs.Prelude.{◌≡◌, ◌≤◌, ◌+◌, ◌-◌, ◌<◌, ◌↔◌, ◌≢◌, ◌*◌, [], Ok, true, false, IfOk, IfErr, IfSome, IfNone, IsNone, OnOk, OnErr, OnSome, map, length};
 ghost use Rattle.std.specs.List.{AllByRecursion, AllZip};
 ghost use Rattle.satl_base.specs.declared.request.Request.{Request};
 ghost use Rattle.satl_io.specs.Causes.{Rose, RoseBy};

@@ -1,7 +1,6 @@
 // A task ends.
-ghost use Rattle.std.specs.Prelude.{◌≡◌, ◌≤◌, ◌<◌, ◌+◌, ◌*◌, ◌-◌, ◌++◌, ◌∷◌, ◌&&◌, ℕ, not, [], length, true, false, None, IfOk, IfSome, IsSome, OnOk, OnErr};
+ghost use Rattle.std.specs.Prelude.{◌≡◌, ◌≤◌, ◌<◌, ◌+◌, ◌*◌, ◌-◌, ◌++◌, not, [], length, true, false, None, IfOk, IfSome, IsSome, OnOk, OnErr};
 ghost use Rattle.std.specs.List.{AllByRecursion};
-ghost use Rattle.satl_frame.specs.Output.{IsWritable};
 ghost use Rattle.satl_base.specs.Cells.{AreSound};
 ghost use Rattle.satl_direct.specs.Senses;
 ghost use Rattle.satl_base.specs.Limits.{most_moved, piece};

@@ -1,5 +1,5 @@
 // Judgements on the first bytes of an input and of a frame.
-ghost use Rattle.std.specs.Prelude.{◌≡◌, ◌≤◌, ◌<◌, ◌+◌, ◌&&◌, ℕ, nat_le, true, length, take, drop, slice_index};
+ghost use Rattle.std.specs.Prelude.{◌≡◌, ◌≤◌, ◌<◌, ◌+◌, ◌&&◌, ℕ, nat_le, true, length, take, drop};
 ghost use Rattle.byteorder.specs.Endian.{big_bytes, big_from};
 ghost use Rattle.satl_frame.specs.Faults.{head_fault, told_length};
 ghost use Rattle.satl_frame.specs.Frames.{head_size, frame_rows, has_code, allows};

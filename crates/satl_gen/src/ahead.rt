@@ -1,6 +1,6 @@
 // What is still to come of a generated input.
 ghost use Rattle.arrayvec.specs.ArrayVec.{array_vec_len};
-ghost use Rattle.std.specs.Prelude.{◌≡◌, ◌<◌, ◌+◌, ◌++◌, ◌^◌, false, None, Some, [], length};
+ghost use Rattle.std.specs.Prelude.{◌≡◌, ◌<◌, ◌+◌, ◌++◌, ◌^◌, false, None, Some, []};
 
 use crate::draw::drawn;
 use crate::pieces::{Piece, block_piece, burst_piece, piece_of, request_piece};

@@ -1,6 +1,5 @@
 // Pieces of a generated input.
-ghost use Rattle.std.specs.Prelude.{◌≡◌, ◌≤◌, ◌+◌, ◌%◌, length, replicate};
-ghost use Rattle.satl_frame.specs.Frames.{attr_code, spelled};
+ghost use Rattle.std.specs.Prelude.{◌≡◌, ◌≤◌, ◌+◌, ◌%◌, length};
 ghost use Rattle.satl_frame.specs.Inputs.{all_spelled};
 ghost use Rattle.satl_frame.specs.declared.frames.Frame.TheVariants as frames;
 ghost use Rattle.satl_gen.specs.Coming.{request_head};

@@ -2,7 +2,7 @@
 
 ghost use Rattle.std.specs.Prelude.{◌≡◌};
 ghost use Rattle.satl_base.specs.Fields.{bits_of};
-ghost use Rattle.satl_regs.specs.Fields.{count_8, count_16, lba_28, lba_48, lba_of, sectors_of};
+ghost use Rattle.satl_regs.specs.Fields.{count_8, count_16, lba_28, lba_of, sectors_of};
 
 use crate::values::Registers;
 

@@ -1,6 +1,6 @@
 // Writing sense data.
 
-ghost use Rattle.std.specs.Prelude.{◌≡◌, ◌+◌, length, IsTrue, IsFalse};
+ghost use Rattle.std.specs.Prelude.{◌≡◌, length, IsTrue, IsFalse};
 ghost use Rattle.satl_sense.specs.Descriptor.{FitsForm, additional_length, descriptor_form, pointer_flags};
 ghost use Rattle.satl_sense.specs.Reading.{IsDescriptorForm};
 ghost use Rattle.satl_sense.specs.Fixed.{fixed_form, ata_flags};

@@ -1,6 +1,6 @@
 // The capacity of the unit.
-ghost use Rattle.std.specs.Prelude.{◌≡◌, ◌≤◌, if◌then◌else◌};
-ghost use Rattle.satl_vpd.specs.Capacity.{capacity_10, capacity_16, last_lba, shown_last_lba};
+ghost use Rattle.std.specs.Prelude.{◌≡◌, ◌≤◌};
+ghost use Rattle.satl_vpd.specs.Capacity.{capacity_10, capacity_16, shown_last_lba};
 
 use satl_identify::Identity;
 

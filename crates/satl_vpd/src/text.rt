@@ -1,6 +1,5 @@
 // Texts of IDENTIFY DEVICE data.
 ghost use Rattle.std.specs.Prelude.{◌≡◌, ◌≤◌, ◌<◌, ◌+◌, ◌==◌};
-ghost use Rattle.std.specs.List.{list_all};
 ghost use Rattle.satl_vpd.specs.Texts.{characters, is_blank};
 
 use arrayvec::ArrayVec;
