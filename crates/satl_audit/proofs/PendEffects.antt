@@ -1,15 +1,16 @@
 -- One block more that a pending WRITE may have left.
-use Rattle.std.proofs.Common.{arith, ◌≡◌, refl, sym, ap, ◌∙◌, ℕ, suc, ◌+◌, ◌-◌, ◌*◌, ◌<◌, Bool, true, false, List, [], ◌∷◌, ◌++◌, length, map, append_assoc}
+use Rattle.std.proofs.Common.{arith, ◌≡◌, refl, sym, ap, ◌∙◌, ℕ, suc, ◌+◌, ◌-◌, ◌*◌, ◌<◌, Bool, true, false, List, [], ◌∷◌, ◌++◌, length, map, drop, append_assoc}
 use Rattle.std.specs.Prelude.{◌==◌, ◌≤◌, if◌then◌else◌, slice_set}
 use Rattle.std.proofs.lemmas.Bool.{eqb-true}
 use Rattle.std.proofs.lemmas.List.{append-nil, map-append}
 use Rattle.satl_base.specs.declared.block.Block.{Block}
+use Rattle.satl_base.specs.Blocks.{blocks_from}
 use Rattle.satl_base.specs.Cells.{pairs_from}
 use Rattle.satl_audit.specs.declared.content.Content.TheVariants.{Input}
 use Rattle.satl_audit.specs.Following.{input_blocks}
 use Rattle.satl_audit.specs.Guesses.{blocks_at}
 use Rattle.satl_audit.specs.Kept.{Keeping, block_of, kept_at, kept_pending, known_sector_at}
-use Rattle.satl_audit.proofs.PutEffects.{at_set, further, from_none}
+use Rattle.satl_audit.proofs.PutEffects.{at_set, blocks_behind, further, from_none}
 
 -- what is left to pend
 abbrev pub left_pends : List ℕ → Bool → ℕ → ℕ → ℕ → ℕ → ℕ → List Keeping → List Block
@@ -17,10 +18,11 @@ left_pends input cached x lba at i count ks = (known_sector_at input ks x).may +
 
 pends_one : (input : List ℕ) (cached : Bool) (x lba at n : ℕ) (ks ms : List Keeping) → lba < length ks → ms ≡ slice_set ks lba (kept_pending (Input at) (kept_at ks lba)) →
     (known_sector_at input ks x).may ++ blocks_at x (pairs_from lba (input_blocks input at (suc n)) cached) ≡ (known_sector_at input ms x).may ++ blocks_at x (pairs_from (lba + 1) (input_blocks input (at + 512) n) cached)
-pends_one input cached x lba at n ks ms less e = one (lba == x) refl
+pends_one input cached x lba at n ks ms less e =
+    one (lba == x) refl ∙ ap (λ bs. (known_sector_at input ms x).may ++ blocks_at x (pairs_from (lba + 1) bs cached)) (blocks_behind input at n)
   where
     later : List Block
-    later = blocks_at x (pairs_from (lba + 1) (input_blocks input (at + 512) n) cached)
+    later = blocks_at x (pairs_from (lba + 1) (blocks_from n (drop 512 (drop at input))) cached)
 
     may_of : Keeping → List Block
     may_of k = map (block_of input) k.may

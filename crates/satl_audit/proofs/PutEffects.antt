@@ -1,9 +1,10 @@
 -- One block more that a WRITE puts.
-use Rattle.std.proofs.Common.{arith, ◌≡◌, refl, sym, ap, ◌∙◌, ℕ, suc, ◌+◌, ◌-◌, ◌*◌, ◌<◌, Bool, true, false, List, [], ◌∷◌, length}
+use Rattle.std.proofs.Common.{arith, ◌≡◌, refl, sym, ap, ◌∙◌, ℕ, suc, ◌+◌, ◌-◌, ◌*◌, ◌<◌, Bool, true, false, List, [], ◌∷◌, length, drop}
 use Rattle.std.specs.Prelude.{◌==◌, ◌≤◌, if◌then◌else◌, Some, slice_set}
 use Rattle.std.proofs.lemmas.Bool.{eqb-true, eqb-false}
-use Rattle.std.proofs.lemmas.List.{get_or-set_other, get_or-set_same, map-append}
+use Rattle.std.proofs.lemmas.List.{drop-drop, get_or-set_other, get_or-set_same, map-append}
 use Rattle.satl_base.specs.declared.block.Block.{Block}
+use Rattle.satl_base.specs.Blocks.{blocks_from}
 use Rattle.satl_base.specs.Cells.{pairs_from}
 use Rattle.satl_audit.specs.declared.content.Content.{Content}
 use Rattle.satl_audit.specs.declared.content.Content.TheVariants.{Input}
@@ -20,13 +21,19 @@ put_sector : (input : List ℕ) (v : Content) (cached : Bool) (k : Keeping) → 
 put_sector input v true k = ap (λ (l : List Block). record { now = Some (block_of input v); may = l }) (map-append (block_of input) k.may (v ∷ []))
 put_sector input v false k = refl
 
+-- the blocks behind the first one
+pub blocks_behind : (input : List ℕ) (at n : ℕ) → blocks_from n (drop 512 (drop at input)) ≡ input_blocks input (at + 512) n
+blocks_behind input at n = ap (blocks_from n) (drop-drop 512 at input ∙ ap (λ k. drop k input) (omega arith))
+
 -- what is left to put
 abbrev pub left_puts : List ℕ → Bool → ℕ → ℕ → ℕ → ℕ → ℕ → List Keeping → KnownSector
 left_puts input cached x lba at i count ks = sector_puts x (pairs_from (lba + i) (input_blocks input (at + 512 * i) (count - i)) cached) (known_sector_at input ks x)
 
 puts_one : (input : List ℕ) (cached : Bool) (x lba at n : ℕ) (ks ms : List Keeping) → lba < length ks → ms ≡ slice_set ks lba (kept_put (Input at) cached (kept_at ks lba)) →
     sector_puts x (pairs_from lba (input_blocks input at (suc n)) cached) (known_sector_at input ks x) ≡ sector_puts x (pairs_from (lba + 1) (input_blocks input (at + 512) n) cached) (known_sector_at input ms x)
-puts_one input cached x lba at n ks ms less e = ap (sector_puts x (pairs_from (lba + 1) (input_blocks input (at + 512) n) cached)) (one (lba == x) refl)
+puts_one input cached x lba at n ks ms less e =
+    ap (sector_puts x (pairs_from (lba + 1) (blocks_from n (drop 512 (drop at input))) cached)) (one (lba == x) refl)
+    ∙ ap (λ bs. sector_puts x (pairs_from (lba + 1) bs cached) (known_sector_at input ms x)) (blocks_behind input at n)
   where
     one : (b : Bool) → (lba == x) ≡ b → (if b then sector_put (block_of input (Input at)) cached (known_sector_at input ks x) else known_sector_at input ks x) ≡ known_sector_at input ms x
     one true h =

@@ -5,10 +5,11 @@ use Rattle.std.proofs.lemmas.List.{append-nil, drop-append-le, drop-drop, drop_a
 use Rattle.byteorder.specs.Endian.{big_bytes}
 use Rattle.satl_base.specs.declared.block.Block.{Block}
 use Rattle.satl_base.specs.declared.request.Request.{Request}
+use Rattle.satl_base.specs.Blocks.{blocks_from}
 use Rattle.satl_frame.specs.declared.frames.Frame.{Frame}
 use Rattle.satl_frame.specs.declared.frames.Frame.TheVariants as frames
 use Rattle.satl_frame.specs.declared.frames.Version.TheVariants.{One}
-use Rattle.satl_frame.specs.DataPages.{padded_block, page_count, pages_from, pages_of}
+use Rattle.satl_frame.specs.DataPages.{page_count, pages_from, pages_of}
 use Rattle.satl_frame.specs.Frames.{IsFrame, data_out, payload_bytes, request_fields}
 use Rattle.satl_frame.specs.Inputs.{all_spelled}
 use Rattle.satl_frame.specs.Magic.{magic}
@@ -17,30 +18,26 @@ use Rattle.satl_frame.proofs.Paging.{whole_block}
 use Rattle.satl_frame.proofs.Refusals.{length-magic}
 use Rattle.satl_frame.proofs.ProgressLemmas.{all_spelled-append}
 use Rattle.satl_cover.specs.Covered.{place_behind}
-use Rattle.satl_audit.specs.declared.content.Content.TheVariants.{Input}
 use Rattle.satl_audit.specs.Arriving.{StandsAt}
 use Rattle.satl_audit.specs.Following.{input_blocks}
-use Rattle.satl_audit.specs.Kept.{block_of}
 
 -- whole pages of bytes that stand at a place are the blocks from there on
 module _ (input : List ℕ) where
-  blocks_stand : (n count at : ℕ) (given post : List ℕ) → count ≤ n → 512 * count ≤ length given → drop at input ≡ given ++ post → take count (pages_from n given) ≡ input_blocks input at count
+  blocks_stand : (n count : ℕ) (bytes given post : List ℕ) → count ≤ n → 512 * count ≤ length given → bytes ≡ given ++ post → take count (pages_from n given) ≡ blocks_from count bytes
   unfolding pages_from
-  blocks_stand zero zero at given post le size is = refl
-  blocks_stand zero (suc count) at given post le size is = absurd (omega (arith, le))
-  blocks_stand (suc n) zero at given post le size is = refl
-  blocks_stand (suc n) (suc count) at given post le size is =
+  blocks_stand zero zero bytes given post le size is = refl
+  blocks_stand zero (suc count) bytes given post le size is = absurd (omega (arith, le))
+  blocks_stand (suc n) zero bytes given post le size is = refl
+  blocks_stand (suc n) (suc count) bytes given post le size is =
       let enough : 512 ≤ length given = omega (arith, size) in
-      let bytes : take 512 (drop at input) ≡ take 512 given = ap (λ (l : List ℕ). take 512 l) is ∙ take-append-le 512 given post enough in
-      let first : block_of input (Input at) ≡ padded_block given = whole_block given (take 512 (drop at input)) enough bytes in
-      let place : drop (at + 512) input ≡ drop 512 given ++ post =
-      ap (λ k. drop k input) (omega arith) ∙ sym (drop-drop 512 at input) ∙ ap (λ (l : List ℕ). drop 512 l) is ∙ drop-append-le 512 given post enough in
-      ap (λ (b : Block). b ∷ take count (pages_from n (drop 512 given))) (sym first)
-      ∙ ap (λ (l : List Block). block_of input (Input at) ∷ l) (blocks_stand n count (at + 512) (drop 512 given) post (omega (arith, le)) (omega (arith, size, length-drop 512 given)) place)
+      let front : take 512 bytes ≡ take 512 given = ap (λ (l : List ℕ). take 512 l) is ∙ take-append-le 512 given post enough in
+      let later : drop 512 bytes ≡ drop 512 given ++ post = ap (λ (l : List ℕ). drop 512 l) is ∙ drop-append-le 512 given post enough in
+      ap (λ (b : Block). b ∷ take count (pages_from n (drop 512 given))) (sym (whole_block given (take 512 bytes) enough front))
+      ∙ ap (λ (l : List Block). record { bytes = take 512 bytes } ∷ l) (blocks_stand n count (drop 512 bytes) (drop 512 given) post (omega (arith, le)) (omega (arith, size, length-drop 512 given)) later)
 
   pub pages_stand : (count at : ℕ) (given post : List ℕ) → 512 * count ≤ length given → drop at input ≡ given ++ post → take count (pages_of given) ≡ input_blocks input at count
   unfolding pages_of
-  pages_stand count at given post size is = blocks_stand (page_count (length given)) count at given post (omega (arith, size)) size is
+  pages_stand count at given post size is = blocks_stand (page_count (length given)) count (drop at input) given post (omega (arith, size)) size is
 
 -- the frames behind the first ones
 pub frames_behind : (input : List ℕ) (before later : List Frame) → input ≡ magic One ++ (all_spelled (before ++ later) ++ []) → drop (place_behind before) input ≡ all_spelled later

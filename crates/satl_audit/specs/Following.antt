@@ -1,21 +1,20 @@
 -- What deeds leave of a sector that goes along with them.
-use Rattle.std.specs.Prelude.{◌≡◌, ℕ, zero, suc, ◌+◌, ◌<◌, Bool, true, false, List, [], ◌∷◌, ◌++◌, length, Option, Some, None}
+use Rattle.std.specs.Prelude.{◌≡◌, ℕ, ◌<◌, Bool, true, false, List, [], ◌∷◌, ◌++◌, length, drop, Option, Some, None}
 use Rattle.satl_base.specs.declared.block.Block.{Block}
 use Rattle.satl_base.specs.declared.block.Range.{Range}
+use Rattle.satl_base.specs.Blocks.{blocks_from}
 use Rattle.satl_base.specs.Cells.{Pair, pairs_from}
 use Rattle.satl_frame.specs.DataPages.{pages_of}
-use Rattle.satl_audit.specs.declared.content.Content.TheVariants.{Input}
 use Rattle.satl_audit.specs.declared.effects.Put.{Put}
 use Rattle.satl_audit.specs.Deeds.{Deed}
 use Rattle.satl_audit.specs.Deeds.Deed.{shows, puts, gives, settles, powers}
 use Rattle.satl_audit.specs.Guesses.{blocks_at}
-use Rattle.satl_audit.specs.Kept.{Keeping, block_of, known_sector_at}
+use Rattle.satl_audit.specs.Kept.{Keeping, known_sector_at}
 use Rattle.satl_audit.specs.Sectors.{KnownSector, sector_gives, sector_power, sector_puts, settled_in}
 
 -- so many blocks of the input from a place on (profile)
 abbrev pub input_blocks : List ℕ → ℕ → ℕ → List Block
-input_blocks input at zero = []
-input_blocks input at (suc count) = block_of input (Input at) ∷ input_blocks input (at + 512) count
+input_blocks input at count = blocks_from count (drop at input)
 
 -- the pairs of a WRITE over a range whose data-out stands at this place of the input (SBC-3, WRITE commands)
 abbrev pub pairs_in : List ℕ → Range → ℕ → Bool → List Pair

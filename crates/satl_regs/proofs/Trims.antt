@@ -5,7 +5,7 @@ use Rattle.std.specs.List.{filter, AllByRecursion}
 use Rattle.std.proofs.lemmas.List.{append-nil, drop-drop, take_at, drop_at, drop-replicate}
 use Rattle.std.proofs.lemmas.List.Concat.{flat_map-cons}
 use Rattle.byteorder.specs.Endian.{little_bytes, little_number}
-use Rattle.byteorder.specs.Numbers.{little_number-reads_back}
+use Rattle.byteorder.specs.Numbers.{little_from-take, little_number-reads_back}
 use Rattle.satl_base.specs.declared.block.Range.{Range}
 use Rattle.satl_regs.specs.Trim.{entry_number, trim_entry, split, entries, payload, padded_bytes, numbers, trimmed, IsTrimmable, FitsEntry}
 use Rattle.satl_base.specs.Blocks.{zero_bytes, is_used}
@@ -25,15 +25,19 @@ pub starts : (block : List ℕ) → rest_of 0 block ≡ trimmed block
 unfolding trimmed
 starts block = refl
 
+one_more : (n : ℕ) (bytes : List ℕ) → numbers (suc n) bytes ≡ little_number 8 bytes ∷ numbers n (drop 8 bytes)
+unfolding numbers
+one_more n bytes = ap (λ (w : ℕ). w ∷ numbers n (drop 8 bytes)) (little_from-take 0 8 8 bytes (omega arith))
+
 filter_front : (r : Range) (rs : List Range) → filter is_used (r ∷ rs) ≡ filter is_used (r ∷ []) ++ filter is_used rs
 filter_front r rs = elim (is_used r) as (λ b. cond b (r ∷ filter is_used rs) (filter is_used rs) ≡ cond b (r ∷ []) [] ++ filter is_used rs) [ true ↦ refl | false ↦ refl ]
 
 pub steps : (i : ℕ) (block : List ℕ) → i < 64 → rest_of i block ≡ filter is_used (trim_entry (little_number 8 (drop (8 * i) block)) ∷ []) ++ rest_of (i + 1) block
-unfolding numbers
 steps i block h =
     let k : 64 - i ≡ suc (64 - (i + 1)) = omega arith in
     let d : drop 8 (drop (8 * i) block) ≡ drop (8 * (i + 1)) block = drop-drop 8 (8 * i) block ∙ ap (λ (n : ℕ). drop n block) (omega arith) in
-    let one : numbers (64 - i) (drop (8 * i) block) ≡ little_number 8 (drop (8 * i) block) ∷ numbers (64 - (i + 1)) (drop (8 * (i + 1)) block) = rw (k, d) refl in
+    let one : numbers (64 - i) (drop (8 * i) block) ≡ little_number 8 (drop (8 * i) block) ∷ numbers (64 - (i + 1)) (drop (8 * (i + 1)) block) =
+    rw k (one_more (64 - (i + 1)) (drop (8 * i) block) ∙ ap (λ bs. little_number 8 (drop (8 * i) block) ∷ numbers (64 - (i + 1)) bs) d) in
     ap (λ (ws : List ℕ). filter is_used (map trim_entry ws)) one ∙ filter_front (trim_entry (little_number 8 (drop (8 * i) block))) (map trim_entry (numbers (64 - (i + 1)) (drop (8 * (i + 1)) block)))
 
 pub ends : (i : ℕ) (block : List ℕ) → 64 ≤ i → rest_of i block ≡ []
@@ -60,13 +64,12 @@ words_zero zero = refl
 words_zero (suc n) = let e : 8 * suc n ≡ suc (suc (suc (suc (suc (suc (suc (suc (8 * n)))))))) = omega arith in rw e (ap (λ (ws : List ℕ). 0 ∷ ws) (words_zero n))
 
 words_back : (es : List Range) (m : ℕ) → AllByRecursion FitsEntry es → numbers (length es + m) (payload es ++ zero_bytes (8 * m)) ≡ map entry_number es ++ zero_bytes m
-unfolding numbers
 words_back [] m f = let e : 0 + m ≡ m = omega arith in rw e (words_zero m)
 words_back (r ∷ rs) m f =
     let n : suc (length rs) + m ≡ suc (length rs + m) = omega arith in
     let wide : entry_number r < 256 ^ 8 = omega (arith, f.0.0, f.0.1) in
     let front = little_number-reads_back 8 (entry_number r) (payload rs ++ zero_bytes (8 * m)) wide in
-    rw (n, front) (ap (λ (ws : List ℕ). entry_number r ∷ ws) (words_back rs m f.1))
+    rw n (one_more (length rs + m) (payload (r ∷ rs) ++ zero_bytes (8 * m)) ∙ rw front (ap (λ (ws : List ℕ). entry_number r ∷ ws) (words_back rs m f.1)))
 
 unused : (m : ℕ) → filter is_used (map trim_entry (zero_bytes m)) ≡ []
 unused zero = refl

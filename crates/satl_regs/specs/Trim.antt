@@ -1,6 +1,7 @@
 -- The payload of a trim: a block of 64 entries of 8 bytes, the lowest byte first (ACS-3 section 7, DATA SET MANAGEMENT).
-use Rattle.std.specs.Prelude.{ℕ, zero, suc, ◌+◌, ◌-◌, ◌*◌, ◌^◌, ◌<◌, ◌≤◌, ◌==◌, List, [], ◌∷◌, ◌++◌, length, map, drop, if◌then◌else◌}
+use Rattle.std.specs.Prelude.{ℕ, ◌+◌, ◌-◌, ◌*◌, ◌^◌, ◌<◌, ◌≤◌, ◌==◌, List, [], ◌∷◌, ◌++◌, length, map, if◌then◌else◌}
 use Rattle.std.specs.List.{filter, flat_map, range_with_len, AllByRecursion}
+use Rattle.std.specs.Simd.{first_chunks}
 use Rattle.byteorder.specs.Endian.{little_bytes, little_number}
 use Rattle.satl_base.specs.Blocks.{is_used, zero_bytes}
 use Rattle.satl_base.specs.Fields.{bits_of}
@@ -36,8 +37,7 @@ trim_block ranges = padded_bytes (payload (entries ranges))
 
 -- The numbers of 8 bytes each that stand in a list of bytes, n of them.
 unfoldable pub numbers : ℕ → List ℕ → List ℕ
-numbers zero bytes = []
-numbers (suc n) bytes = little_number 8 bytes ∷ numbers n (drop 8 bytes)
+numbers n bytes = map (λ entry. little_number 8 entry) (first_chunks 8 n bytes)
 
 -- The ranges that a block trims: an entry with count 0 is unused.
 unfoldable pub trimmed : List ℕ → List Range
