@@ -5,31 +5,31 @@
 /// `tag` is below 32, and `lba` has 48 bits. `key`, `asc` and `ascq` are sense data, 0 where the drive gives none.
 #[derive(Clone, Copy, Debug, PartialEq, Eq)]
 pub struct NcqError {
-    /// The tag of the command that failed, 0 to 31.
+    /// NCQ TAG of the command that failed, 0 to 31.
     pub tag: u8,
-    /// The STATUS register.
+    /// STATUS.
     pub status: u8,
-    /// The ERROR register.
+    /// ERROR.
     pub error: u8,
-    /// The address, 48 bits.
+    /// LBA, 48 bits.
     pub lba: u64,
-    /// The DEVICE register.
+    /// DEVICE.
     pub device: u8,
-    /// The COUNT register.
+    /// COUNT, 16 bits.
     pub count: u16,
-    /// The sense key.
+    /// SENSE KEY.
     pub key: u8,
-    /// The additional sense code.
+    /// ADDITIONAL SENSE CODE.
     pub asc: u8,
-    /// Its qualifier.
+    /// ADDITIONAL SENSE CODE QUALIFIER.
     pub ascq: u8,
 }
 
 /// Why a log has no entry (ACS-3 annex A, NCQ Command Error log).
 #[derive(Clone, Copy, Debug, PartialEq, Eq)]
 pub enum LogFault {
-    /// The bytes sum to this modulo 256, and not to 0.
+    /// The bytes sum to this modulo 256, and not to 0 (CHECKSUM, byte 511).
     BadChecksum { sum: u8 },
-    /// The command that failed was not queued, or none failed.
+    /// The command that failed was not queued, or none failed (NQ, byte 0 bit 7).
     NotQueued,
 }

@@ -7,4 +7,4 @@ mod log;
 mod tests;
 
 pub use entry::{LogFault, NcqError};
-pub use log::{log_bytes, read_log};
+pub use log::{LOG_ADDRESS, log_bytes, no_error_log, read_log};

@@ -1,5 +1,5 @@
 // The bytes of the log.
-ghost use Rattle.std.specs.Prelude.{◌≡◌, ◌≢◌, ◌<◌, [], ◌∷◌, ◌^◌, ◌↔◌, ℕ, Ok, IsTrue};
+ghost use Rattle.std.specs.Prelude.{◌≡◌, ◌≢◌, ◌<◌, [], ◌∷◌, ◌++◌, ◌^◌, ◌↔◌, ℕ, Ok, IsTrue, replicate};
 ghost use Rattle.std.specs.Int.{byte_at};
 ghost use Rattle.satl_base.specs.Identify.{checksum};
 ghost use Rattle.satl_base.specs.Places.{laid};
@@ -8,8 +8,14 @@ ghost use Rattle.satl_errlog.specs.Log.{entry_in, fields, is_not_queued, log_of,
 use crate::entry::{LogFault, NcqError};
 use satl_base::{Block, checksum_of};
 
+/// The address of the log, for READ LOG EXT (ACS-3 annex A, NCQ Command Error log).
+pub const LOG_ADDRESS: u8 = 0x10;
+
 // The place of the byte that makes the sum of all bytes 0.
 const CHECKSUM: usize = 511;
+
+// The bit of byte 0 that is NQ: the command that failed was not queued, or none failed.
+const NQ: u32 = 7;
 
 fn low_first(count: u16) -> [u8; 2]
     ensures bytes { result ≡ byte_at 0 count ∷ byte_at 1 count ∷ [] }
@@ -25,23 +31,23 @@ fn fields_of(error: &NcqError) -> [u8; 17]
     let [_, _, lba5, lba4, lba3, lba2, lba1, lba0] = error.lba.to_be_bytes();
     let [count0, count1] = low_first(error.count);
     [
-        error.tag & 0x1F,
+        error.tag & 0x1F, // NCQ TAG, below NQ and UNL
         0,
-        error.status,
-        error.error,
-        lba0,
-        lba1,
-        lba2,
-        error.device,
-        lba3,
-        lba4,
-        lba5,
+        error.status, // STATUS
+        error.error, // ERROR
+        lba0, // LBA(7:0)
+        lba1, // LBA(15:8)
+        lba2, // LBA(23:16)
+        error.device, // DEVICE
+        lba3, // LBA(31:24)
+        lba4, // LBA(39:32)
+        lba5, // LBA(47:40)
         0,
-        count0,
-        count1,
-        error.key,
-        error.asc,
-        error.ascq,
+        count0, // COUNT(7:0)
+        count1, // COUNT(15:8)
+        error.key, // SENSE KEY
+        error.asc, // ADDITIONAL SENSE CODE
+        error.ascq, // ADDITIONAL SENSE CODE QUALIFIER
     ]
 }
 
@@ -78,6 +84,17 @@ pub fn log_bytes(error: &NcqError) -> Block
     }
 }
 
+/// The log where no queued command has failed: NQ is 1, and the bytes sum to 0 modulo 256 (ACS-3 annex A, NCQ Command Error
+/// log).
+pub fn no_error_log() -> Block
+    ensures exact { result.bytes ≡ 0x80 ∷ (replicate 510 0 ++ 0x80 ∷ []) }
+{
+    let mut bytes = [0; 512];
+    bytes[0] = 1 << NQ;
+    bytes[CHECKSUM] = 0x80; // 80h and 80h sum to 0
+    Block { bytes }
+}
+
 fn entry_from(bytes: &[u8; 512]) -> NcqError
     ensures { result ≡ entry_in bytes.now }
 {
@@ -110,7 +127,7 @@ pub fn read_log(log: &Block) -> Result<NcqError, LogFault>
     if sum != 0 {
         return Err(LogFault::BadChecksum { sum });
     }
-    if log.bytes[0] >> 7 & 1 == 1 {
+    if log.bytes[0] >> NQ & 1 == 1 {
         return Err(LogFault::NotQueued);
     }
     Ok(entry_from(&log.bytes))
