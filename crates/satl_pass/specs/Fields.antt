@@ -25,6 +25,10 @@ byt_blok = bit 2 2
 abbrev pub t_length : Field
 t_length = bits 2 1 0
 
+-- EXTEND of the form of 16 bytes
+abbrev pub extend_16 : Flag
+extend_16 = bit 1 0
+
 -- what differs by the form: EXTEND, where the registers stand, and the byte of COMMAND
 pub record PassForm : Type 0 where
   pub extend : Flag
@@ -33,7 +37,7 @@ pub record PassForm : Type 0 where
 
 -- ATA PASS-THROUGH (16): the high bytes of the registers count where EXTEND is 1
 abbrev pub high : ℕ → Field
-high place cdb = if bit 1 0 cdb then slice_index cdb place else 0
+high place cdb = if extend_16 cdb then slice_index cdb place else 0
 
 abbrev pub registers_16 : List ℕ → Registers
 registers_16 cdb = record {
@@ -45,7 +49,7 @@ registers_16 cdb = record {
 }
 
 abbrev pub form_16 : PassForm
-form_16 = record { extend = bit 1 0; registers = registers_16; command_place = 14 }
+form_16 = record { extend = extend_16; registers = registers_16; command_place = 14 }
 
 -- ATA PASS-THROUGH (12): registers without high bytes, and no EXTEND
 abbrev pub registers_12 : List ℕ → Registers

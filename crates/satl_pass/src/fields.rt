@@ -1,7 +1,7 @@
 // The fields of the command descriptor block.
 
 ghost use Rattle.std.specs.Prelude.{◌≡◌, ◌<◌, ◌^◌};
-ghost use Rattle.satl_pass.specs.Fields.{blocks_counted, count_length, features_length, form_of, high, pass_in, registers_12, registers_16, t_length, transfer_length};
+ghost use Rattle.satl_pass.specs.Fields.{blocks_counted, count_length, extend_16, features_length, form_of, high, pass_in, registers_12, registers_16, t_length, transfer_length};
 
 use crate::pass::Pass;
 use byteorder::{BigEndian, ByteOrder};
@@ -11,12 +11,19 @@ use satl_regs::Registers;
 /// The operation code of the form of 16 bytes; the other is that of 12.
 const CODE_16: u8 = 0x85;
 
+/// EXTEND of the form of 16 bytes: the registers have 48 bits (SAT-3 12.2).
+fn extend_16(cdb: &[u8; 16]) -> bool
+    ensures { result ≡ extend_16 cdb.now }
+{
+    flag(cdb, 1, 0)
+}
+
 /// A high byte of the form of 16 bytes, which counts where EXTEND is 1.
 fn high(cdb: &[u8; 16], place: usize) -> u8
     requires { place < 16 }
     ensures { result ≡ high place cdb.now }
 {
-    if flag(cdb, 1, 0) { cdb[place] } else { 0 }
+    if extend_16(cdb) { cdb[place] } else { 0 }
 }
 
 fn registers_16(cdb: &[u8; 16]) -> Registers
@@ -67,7 +74,7 @@ fn registers_of(cdb: &[u8; 16]) -> Registers
 fn extend_of(cdb: &[u8; 16]) -> bool
     ensures { result ≡ (form_of cdb.now).extend cdb.now }
 {
-    cdb[0] == CODE_16 && flag(cdb, 1, 0)
+    cdb[0] == CODE_16 && extend_16(cdb)
 }
 
 /// The byte of COMMAND.
@@ -104,7 +111,8 @@ fn count_length(blocks: bool, extend: bool, regs: &Registers) -> u32
     }
 }
 
-fn t_length(cdb: &[u8; 16]) -> u8
+/// T_LENGTH: where the length of the data stands (SAT-3 12.2).
+pub fn t_length(cdb: &[u8; 16]) -> u8
     ensures { result ≡ t_length cdb.now }
 {
     cdb[2] & 3

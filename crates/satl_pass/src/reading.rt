@@ -4,7 +4,7 @@ ghost use Rattle.std.specs.Prelude.{◌≡◌, IfOk};
 ghost use Rattle.satl_regs.specs.Commands.{command_in};
 ghost use Rattle.satl_pass.specs.Reading.{CanGoToDrive, has_other_direction, has_other_length, is_queued, pass_says};
 
-use crate::fields::{command_place, pass_of};
+use crate::fields::{command_place, pass_of, t_length};
 use crate::pass::Pass;
 use crate::transfers::{goes_by, is_other, is_protocol, is_writing, own_blocks};
 use satl_base::LONGEST_DATA;
@@ -43,7 +43,7 @@ pub fn read_pass(cdb: &[u8; 16]) -> Result<Pass, Illegal>
     if !is_protocol(pass.protocol) {
         return Err(Illegal::invalid_field(1));
     }
-    if cdb[2] & 3 == 3 || pass.length > LONGEST_DATA {
+    if t_length(cdb) == 3 || pass.length > LONGEST_DATA {
         return Err(Illegal::invalid_field(2));
     }
     if is_queued(&pass) {

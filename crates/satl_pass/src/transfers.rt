@@ -20,6 +20,7 @@ const UDMA_IN: u8 = 10;
 
 const UDMA_OUT: u8 = 11;
 
+/// Whether a value of PROTOCOL is one of those that are listed (SAT-3 12.2; which are: profile).
 pub fn is_protocol(protocol: u8) -> bool
     ensures { result ≡ is_in protocol protocols }
 {
