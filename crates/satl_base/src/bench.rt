@@ -3,10 +3,12 @@ ghost use Rattle.std.specs.Prelude.{◌≡◌};
 
 use std::marker::Model;
 
-/// The kind of a flaw: reads of the sector fail, or writes to it (profile).
+/// The kind of a flaw of a sector (profile).
 #[derive(Clone, Copy, Debug, PartialEq, Eq)]
 pub enum Which {
+    /// Reads of the sector fail.
     Read,
+    /// Writes to the sector fail.
     Write,
 }
 

@@ -1,5 +1,8 @@
 // Logical blocks and ranges of them.
 
+/// How many bytes a logical block has (SBC-3, LOGICAL BLOCK LENGTH; the size is fixed by the profile).
+pub const BLOCK_BYTES: u32 = 512;
+
 /// A logical block of 512 bytes (SBC-3 4.5; the size is fixed by the profile).
 #[derive(Clone, Copy, Debug, PartialEq, Eq)]
 pub struct Block {

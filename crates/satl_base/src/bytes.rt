@@ -1,6 +1,7 @@
-// Bytes that are put together, and their sum.
+// Bytes that are put together, their sum, and whether they are zeros.
 ghost use Rattle.std.specs.Prelude.{◌≡◌, ◌≤◌, ◌+◌, ◌++◌, length};
 ghost use Rattle.arrayvec.specs.ArrayVec.{array_vec_len};
+ghost use Rattle.satl_base.specs.Blocks.{is_zeros};
 ghost use Rattle.satl_base.specs.Identify.{checksum};
 
 use arrayvec::ArrayVec;
@@ -14,6 +15,13 @@ pub fn append<const N: usize>(bytes: &mut ArrayVec<u8, N>, more: &[u8])
     let Ok(()) = bytes.try_extend_from_slice(more) else {
         unreachable!();
     };
+}
+
+/// Whether all the bytes are zeros, as those of LUN 0 are, and those of the block of a WRITE SAME that unmaps (profile).
+pub fn are_zeros(bytes: &[u8]) -> bool
+    ensures { result ≡ is_zeros bytes.now }
+{
+    bytes.iter().all(|byte| *byte == 0)
 }
 
 /// The sum of 512 bytes modulo 256, which is 0 in IDENTIFY DEVICE data with an integrity word and in a log (ACS-3 7.12.7).

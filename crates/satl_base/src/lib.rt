@@ -16,8 +16,8 @@ mod request;
 mod steps;
 
 pub use bench::{BenchEvent, OrderBytes, Which};
-pub use block::{Block, Range};
-pub use bytes::{append, checksum_of};
+pub use block::{BLOCK_BYTES, Block, Range};
+pub use bytes::{append, are_zeros, checksum_of};
 pub use lender::Lender;
 pub use limits::{
     INPUT_LIMIT, LONGEST_DATA, MOST_COVERED, MOST_HELD, MOST_MOVED, MOST_RANGES, MOST_TASKS,

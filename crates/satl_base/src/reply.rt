@@ -13,8 +13,11 @@ use std::marker::Model;
 /// The status of a command (SAM-5 5.3.1).
 #[derive(Clone, Copy, Debug, PartialEq, Eq)]
 pub enum Scsi {
+    /// GOOD: the command was carried out.
     Good,
+    /// CHECK CONDITION: sense data say why it was not.
     CheckCondition,
+    /// TASK SET FULL: there was no room for a task.
     TaskSetFull,
 }
 
@@ -34,9 +37,13 @@ impl Scsi {
 /// The answer to a task management function (SAM-5 7.1).
 #[derive(Clone, Copy, Debug, PartialEq, Eq)]
 pub enum Response {
+    /// FUNCTION COMPLETE: it was carried out.
     Complete,
+    /// FUNCTION REJECTED: it is none of the functions.
     Rejected,
+    /// FUNCTION SUCCEEDED: what a query asked for is there.
     Succeeded,
+    /// INCORRECT LOGICAL UNIT NUMBER: no unit has the LUN.
     IncorrectLun,
 }
 

@@ -61,7 +61,9 @@ pub struct Tag(pub u32);
 /// The task attribute of a command (SAM-5 8.6). HEAD OF QUEUE and ACA are left out by the profile.
 #[derive(Clone, Copy, Debug, PartialEq, Eq)]
 pub enum Attr {
+    /// SIMPLE: it may be carried out before or behind others.
     Simple,
+    /// ORDERED: it is carried out behind all that came before it, and before all that come behind it.
     Ordered,
 }
 
