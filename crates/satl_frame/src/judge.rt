@@ -5,11 +5,13 @@ ghost use Rattle.satl_frame.specs.Faults.{head_fault, told_length};
 ghost use Rattle.satl_frame.specs.Frames.{head_size, frame_rows, has_code, allows};
 ghost use Rattle.satl_frame.specs.Magic.{names_version, version_of, magic_fault};
 
-use crate::frames::{Reason, Version};
+use crate::frames::{
+    BENCH_KIND, END_KIND, HEAD_SIZE, LATER_REQUEST_SIZE, LONGEST_EVENT, MAGIC_NAME, MAGIC_SIZE,
+    MANAGE_KIND, REQUEST_KIND, REQUEST_SIZE, Reason, TURN_KIND, VERSION_ONE, VERSION_PLACE,
+    VERSION_TWO, Version,
+};
 use byteorder::{BigEndian, ByteOrder};
 use satl_base::LONGEST_DATA;
-
-const MAGIC_NAME: [u8; 7] = *b"SATLRPL";
 
 /// The number in the four bytes from a place on.
 pub fn number_4(bytes: &[u8], at: usize) -> u32
@@ -34,15 +36,19 @@ pub fn head_size(version: Version) -> u32
     ensures { result ≡ head_size version }
 {
     match version {
-        Version::One => 30,
-        Version::Two => 34,
+        Version::One => REQUEST_SIZE as u32,
+        Version::Two => LATER_REQUEST_SIZE as u32,
     }
 }
 
 fn is_kind(version: Version, kind: u8) -> bool
     ensures { result ≡ has_code (frame_rows version) kind }
 {
-    kind == 1 || kind == 2 || kind == 3 || kind == 4 || kind == 5
+    kind == REQUEST_KIND
+        || kind == MANAGE_KIND
+        || kind == TURN_KIND
+        || kind == BENCH_KIND
+        || kind == END_KIND
 }
 
 /// The shortest and the longest payload of a kind.
@@ -51,10 +57,10 @@ fn lengths(version: Version, kind: u8) -> (u32, u32)
     ensures { (len : ℕ) → allows (frame_rows version) kind len ≡ (nat_le result.0 len && nat_le len result.1) }
 {
     match kind {
-        1 => (head_size(version), head_size(version) + LONGEST_DATA),
-        2 => (14, 14),
-        3 => (2, 2),
-        4 => (1, 257),
+        REQUEST_KIND => (head_size(version), head_size(version) + LONGEST_DATA),
+        MANAGE_KIND => (14, 14),
+        TURN_KIND => (2, 2),
+        BENCH_KIND => (1, LONGEST_EVENT as u32),
         _ => (0, 0),
     }
 }
@@ -94,14 +100,14 @@ pub fn head_fault(
     if !is_kind(version, head[0]) {
         return Some(Reason::BadKind);
     }
-    if count < 5 {
+    if count < HEAD_SIZE {
         return Some(Reason::Truncated);
     }
     let length = told_length(head);
     if !is_length(version, head[0], length) {
         return Some(Reason::BadLength);
     }
-    if limit.saturating_sub(offset) < 5 + u64::from(length) {
+    if limit.saturating_sub(offset) < HEAD_SIZE as u64 + u64::from(length) {
         return Some(Reason::TooLong);
     }
     None
@@ -111,8 +117,8 @@ fn names_version(newest: Version, code: u8) -> bool
     ensures { result ≡ names_version newest code }
 {
     match newest {
-        Version::One => code == b'1',
-        Version::Two => code == b'1' || code == b'2',
+        Version::One => code == VERSION_ONE,
+        Version::Two => code == VERSION_ONE || code == VERSION_TWO,
     }
 }
 
@@ -121,14 +127,14 @@ pub fn magic_fault(newest: Version, front: &[u8]) -> Option<Reason>
     requires { length front.now ≤ 8 }
     ensures { result ≡ magic_fault newest front.now }
 {
-    let named = front.len().min(7);
+    let named = front.len().min(VERSION_PLACE);
     if !MAGIC_NAME.starts_with(&front[..named]) {
         return Some(Reason::BadMagic);
     }
-    if front.len() < 8 {
+    if front.len() < MAGIC_SIZE {
         return Some(Reason::Truncated);
     }
-    if !names_version(newest, front[7]) {
+    if !names_version(newest, front[VERSION_PLACE]) {
         return Some(Reason::BadMagic);
     }
     None
@@ -139,7 +145,7 @@ pub fn version_of(magic: &[u8]) -> Version
     requires { length magic.now ≡ 8 }
     ensures { result ≡ version_of magic.now }
 {
-    if magic[7] == b'2' {
+    if magic[VERSION_PLACE] == VERSION_TWO {
         Version::Two
     } else {
         Version::One

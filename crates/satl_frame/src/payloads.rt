@@ -5,7 +5,10 @@ ghost use Rattle.satl_frame.specs.Faults.{has_bad_event, has_bad_field};
 ghost use Rattle.satl_frame.specs.Frames.{attr_code, expected_in, is_expectable, which_code, head_size, request_fields, manage_fields, frame_rows, has_code, allows, HasFields, IsManage};
 ghost use Rattle.satl_frame.specs.Pulls.{SpellsFrame, SpellsEvent};
 
-use crate::frames::{Frame, LONGEST_EVENT, Version};
+use crate::frames::{
+    BENCH_KIND, Frame, GLITCH_EVENT, LONGEST_EVENT, MANAGE_KIND, MEND_EVENT, ORDER_EVENT,
+    POWER_EVENT, REQUEST_SIZE, STRIKE_EVENT, TURN_KIND, UNPLUG_EVENT, Version,
+};
 use crate::judge::{number_4, number_8};
 use byteorder::{BigEndian, ByteOrder};
 use satl_base::{
@@ -29,7 +32,7 @@ fn expected_of(version: Version, head: &[u8]) -> Option<u32>
 {
     match version {
         Version::One => None,
-        Version::Two => Some(number_4(head, 30)),
+        Version::Two => Some(number_4(head, REQUEST_SIZE)),
     }
 }
 
@@ -53,7 +56,7 @@ pub fn request_of(version: Version, head: &[u8]) -> Option<Request>
     let mut lun = [0; 8];
     lun.copy_from_slice(&head[2..10]);
     let mut cdb = [0; 16];
-    cdb.copy_from_slice(&head[14..30]);
+    cdb.copy_from_slice(&head[14..REQUEST_SIZE]);
     let expected = expected_of(version, head);
     if !is_expectable(expected) {
         return None;
@@ -164,12 +167,12 @@ fn event_of<'a>(payload: &'a [u8]) -> Option<BenchEvent<'a>>
     ensures none { IfNone result (has_bad_event payload.now ≡ true) }
 {
     match payload[0] {
-        1 => strike_of(payload),
-        2 => mend_of(payload),
-        3 => glitch_of(payload),
-        4 => order_of(payload),
-        5 if payload.len() == 1 => Some(BenchEvent::Power),
-        6 if payload.len() == 1 => Some(BenchEvent::Unplug),
+        STRIKE_EVENT => strike_of(payload),
+        MEND_EVENT => mend_of(payload),
+        GLITCH_EVENT => glitch_of(payload),
+        ORDER_EVENT => order_of(payload),
+        POWER_EVENT if payload.len() == 1 => Some(BenchEvent::Power),
+        UNPLUG_EVENT if payload.len() == 1 => Some(BenchEvent::Unplug),
         _ => None,
     }
 }
@@ -183,9 +186,9 @@ pub fn small_frame<'a>(version: Version, code: u8, payload: &'a [u8]) -> Option<
     ensures none { IfNone result (has_bad_field version code payload.now ≡ true) }
 {
     match code {
-        2 => Some(Frame::Manage(manage_of(payload)?)),
-        3 => Some(Frame::Turn(turn_of(payload))),
-        4 => Some(Frame::Bench(event_of(payload)?)),
+        MANAGE_KIND => Some(Frame::Manage(manage_of(payload)?)),
+        TURN_KIND => Some(Frame::Turn(turn_of(payload))),
+        BENCH_KIND => Some(Frame::Bench(event_of(payload)?)),
         _ => Some(Frame::End),
     }
 }

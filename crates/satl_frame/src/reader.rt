@@ -8,7 +8,10 @@ ghost use Rattle.satl_frame.specs.Pulls.{PullCauses, Stopped, TookPayload, TookR
 ghost use Rattle.satl_frame.specs.Reading.{Reading, Gave, Blames, ReadCauses};
 ghost use Rattle.satl_frame.specs.Steps.{Began, BlamesMagic, StoodAt, BlamesAt, BlamesPayload, head_in};
 
-use crate::frames::{Frame, FrameFault, LONGEST_EVENT, Place, Reason, Version};
+use crate::frames::{
+    Frame, FrameFault, HEAD_SIZE, LATER_REQUEST_SIZE, LONGEST_EVENT, MAGIC_SIZE, Place,
+    REQUEST_KIND, Reason, Version,
+};
 use crate::judge::{head_fault, head_size, magic_fault, told_length, version_of};
 use crate::payloads::{request_of, small_frame};
 use crate::pulling::{PullError, fill, pull};
@@ -60,7 +63,7 @@ fn pull_request<S: Source, P: Lender>(
     ensures lent { HasLent (given_pages asked_pages result) (P.stock lender.old) (P.stock lender.new) }
 {
     let size = head_size(version);
-    let mut room = [0; 34];
+    let mut room = [0; LATER_REQUEST_SIZE];
     let head = &mut room[..size as usize];
     pull(source, head)?;
     match request_of(version, head) {
@@ -119,7 +122,7 @@ fn pull_payload<'a, S: Source, P: Lender>(
     ensures causes { PullCauses (S.left source.old) (S.left source.new) len (S.faults source.old) (S.faults source.new) result }
     ensures lent { HasLent (given_pages found_pages result) (P.stock lender.old) (P.stock lender.new) }
 {
-    if code > 1 {
+    if code != REQUEST_KIND {
         return pull_small(source, room, version, code, len);
     }
     match pull_request(source, buffer, lender, version, len) {
@@ -186,7 +189,7 @@ fn read_frame<'a, S: Source, P: Lender>(
     ensures causes { ReadCauses (S.faults source.old) (S.faults source.new) result }
     ensures lent { HasLent (given_pages (λ x. frame_pages x.0) result) (P.stock lender.old) (P.stock lender.new) }
 {
-    let mut head = [0; 5];
+    let mut head = [0; HEAD_SIZE];
     let count = match fill(source, &mut head) {
         Ok(count) => count,
         Err(Failed) => return Err(FrameFault::ReadFault),
@@ -195,7 +198,10 @@ fn read_frame<'a, S: Source, P: Lender>(
     match head_fault(place.version, limit, offset, &head, count) {
         Some(reason) => Err(FrameFault::Bad { reason, offset }),
         None => match read_payload(source, buffer, lender, room, &head, place) {
-            Ok(frame) => Ok((frame, offset + 5 + u64::from(told_length(&head)))),
+            Ok(frame) => Ok((
+                frame,
+                offset + HEAD_SIZE as u64 + u64::from(told_length(&head)),
+            )),
             Err(fault) => Err(fault),
         },
     }
@@ -207,7 +213,7 @@ fn read_magic<S: Source>(source: &mut S, newest: Version) -> Result<Place, Frame
     ensures fault { IfErr result (BlamesMagic newest (S.left source.old) (S.left source.new)) }
     ensures causes { ReadCauses (S.faults source.old) (S.faults source.new) result }
 {
-    let mut front = [0; 8];
+    let mut front = [0; MAGIC_SIZE];
     let count = match fill(source, &mut front) {
         Ok(count) => count,
         Err(Failed) => return Err(FrameFault::ReadFault),
@@ -216,7 +222,7 @@ fn read_magic<S: Source>(source: &mut S, newest: Version) -> Result<Place, Frame
         Some(reason) => Err(FrameFault::Bad { reason, offset: 0 }),
         None => Ok(Place {
             version: version_of(&front),
-            offset: 8,
+            offset: MAGIC_SIZE as u64,
         }),
     }
 }

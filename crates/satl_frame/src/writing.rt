@@ -10,9 +10,12 @@ ghost use Rattle.satl_frame.specs.Output.{sent_len, residual, reply_kind, reply_
 ghost use Rattle.satl_frame.specs.Frames.{framed};
 
 use crate::buffer::WriteBuffer;
-use crate::frames::{OutFrame, WriteFault};
+use crate::frames::{
+    FAULT_KIND, LATER_REPLY_KIND, LATER_REPLY_SIZE, MANAGED_KIND, OUT_END_KIND, OUT_MAGIC,
+    OutFrame, REPLY_KIND, REPLY_SIZE, WriteFault,
+};
 use arrayvec::ArrayVec;
-use satl_base::{Pages, Reply};
+use satl_base::{Pages, Reply, append};
 use satl_io::{Failed, Sink};
 
 /// What stands before the data of a reply: 12 or 16 bytes, and at most 32 of sense.
@@ -101,11 +104,11 @@ fn first_head(reply: &Reply) -> [u8; 12]
     ensures { result ≡ framed 0x81 (reply_len reply.now) (reply_fields reply.now) }
 {
     let sense = reply.sense.len() as u8;
-    let [a, b, c, d] = (7 + u32::from(sense) + reply.data_len).to_be_bytes();
+    let [a, b, c, d] = (REPLY_SIZE + u32::from(sense) + reply.data_len).to_be_bytes();
     let [e, f, g, h] = reply.tag.0.to_be_bytes();
     let nexus = reply.nexus.number();
     let status = reply.status.code();
-    [0x81, a, b, c, d, nexus, status, e, f, g, h, sense]
+    [REPLY_KIND, a, b, c, d, nexus, status, e, f, g, h, sense]
 }
 
 /// A reply of version 2 up to its sense.
@@ -116,25 +119,16 @@ fn second_head(reply: &Reply, expected: u32) -> [u8; 16]
     ensures { result ≡ framed 0x83 (reply_len reply.now) (reply_fields reply.now) }
 {
     let sense = reply.sense.len() as u8;
-    let [a, b, c, d] = (11 + u32::from(sense) + expected.min(reply.data_len)).to_be_bytes();
+    let sent = expected.min(reply.data_len);
+    let [a, b, c, d] = (LATER_REPLY_SIZE + u32::from(sense) + sent).to_be_bytes();
     let [e, f, g, h] = reply.tag.0.to_be_bytes();
     let [r, s, t, u] = residual(expected, reply.data_len).to_be_bytes();
     let nexus = reply.nexus.number();
     let status = reply.status.code();
+    let kind = LATER_REPLY_KIND;
     [
-        0x83, a, b, c, d, nexus, status, e, f, g, h, r, s, t, u, sense,
+        kind, a, b, c, d, nexus, status, e, f, g, h, r, s, t, u, sense,
     ]
-}
-
-/// Puts bytes behind those of a front, where they fit.
-fn extend(front: &mut Front, bytes: &[u8])
-    requires { array_vec_len front.old + length bytes.now ≤ 48 }
-    ensures { front.new.items ≡ front.old.items ++ bytes.now }
-{
-    match front.try_extend_from_slice(bytes) {
-        Ok(()) => {}
-        Err(_) => unreachable!(),
-    }
 }
 
 /// A reply up to its sense.
@@ -145,8 +139,8 @@ fn extend_by_fields(reply: &Reply, front: &mut Front)
     ensures few { array_vec_len front.new ≤ 16 }
 {
     match reply.expected {
-        None => extend(front, &first_head(reply)),
-        Some(expected) => extend(front, &second_head(reply, expected)),
+        None => append(front, &first_head(reply)),
+        Some(expected) => append(front, &second_head(reply, expected)),
     }
 }
 
@@ -183,7 +177,7 @@ fn write_parts<K: Sink>(sink: &mut K, buffer: &mut WriteBuffer, reply: &Reply) -
 {
     let mut front = Front::new();
     extend_by_fields(reply, &mut front);
-    extend(&mut front, reply.sense.as_slice());
+    append(&mut front, reply.sense.as_slice());
     let len = sent_len(reply.expected, reply.data_len);
     if len > 0 {
         return write_with_data(sink, buffer, &front, &reply.body, len);
@@ -231,7 +225,7 @@ pub fn write_frame<K: Sink>(frame: OutFrame, sink: &mut K) -> Result<(), WriteFa
     ensures cause { HasCause (K.faults sink.old) (K.faults sink.new) result }
 {
     match frame {
-        OutFrame::Magic => told(push(sink, b"SATLRSP1")),
+        OutFrame::Magic => told(push(sink, &OUT_MAGIC)),
         OutFrame::Reply(reply) => write_alone(reply, sink),
         OutFrame::Managed {
             nexus,
@@ -241,16 +235,20 @@ pub fn write_frame<K: Sink>(frame: OutFrame, sink: &mut K) -> Result<(), WriteFa
         } => {
             let [a, b, c, d] = tag.0.to_be_bytes();
             let code = response.code();
+            let kind = MANAGED_KIND;
             told(push(
                 sink,
-                &[0x82, 0, 0, 0, 7, nexus.number(), function, code, a, b, c, d],
+                &[kind, 0, 0, 0, 7, nexus.number(), function, code, a, b, c, d],
             ))
         }
-        OutFrame::End => told(push(sink, &[0x85, 0, 0, 0, 0])),
+        OutFrame::End => told(push(sink, &[OUT_END_KIND, 0, 0, 0, 0])),
         OutFrame::Fault { reason, offset } => {
             let [a, b, c, d, e, f, g, h] = offset.to_be_bytes();
             let code = reason.code();
-            told(push(sink, &[0x8F, 0, 0, 0, 9, code, a, b, c, d, e, f, g, h]))
+            told(push(
+                sink,
+                &[FAULT_KIND, 0, 0, 0, 9, code, a, b, c, d, e, f, g, h],
+            ))
         }
     }
 }
