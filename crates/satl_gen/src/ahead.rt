@@ -5,6 +5,7 @@ ghost use Rattle.std.specs.Prelude.{◌≡◌, ◌<◌, ◌+◌, ◌++◌, ◌^�
 use crate::draw::drawn;
 use crate::pieces::{Piece, block_piece, burst_piece, piece_of, request_piece};
 use rand_pcg::Pcg32;
+use satl_frame::END_KIND;
 
 /// Makes the pieces of a generated input, one after the other.
 #[derive(Drop)]
@@ -78,6 +79,6 @@ impl Ahead {
             return self.take_request();
         }
         self.ended = true;
-        piece_of(&[0x05, 0, 0, 0, 0])
+        piece_of(&[END_KIND, 0, 0, 0, 0])
     }
 }

@@ -8,8 +8,9 @@ ghost use Rattle.satl_gen.specs.Generated.{block_full_of, burst};
 
 use crate::draw::Draw;
 use arrayvec::ArrayVec;
-use satl_base::append;
+use satl_base::{BLOCK_BYTES, append};
 use satl_cdb::write_cdb;
+use satl_frame::{BENCH_KIND, ORDER_EVENT, REQUEST_KIND, REQUEST_SIZE, TURN_KIND};
 
 /// At most 512 bytes.
 pub type Piece = ArrayVec<u8, 512>;
@@ -36,12 +37,13 @@ pub fn block_piece(value: u64) -> Piece
 pub fn request_piece(number: u32, draw: Draw) -> Piece
     ensures { result.items ≡ request_head number draw }
 {
-    let [a, b, c, d] = (30 + 512 * draw.sent_blocks()).to_be_bytes();
+    let [a, b, c, d] = (REQUEST_SIZE as u32 + BLOCK_BYTES * draw.sent_blocks()).to_be_bytes();
     let [e, f, g, h] = number.to_be_bytes();
     let nexus = (draw.a / 8 % 4) as u8;
     let attr = u8::from(draw.a / 32 % 16 == 0);
+    let kind = REQUEST_KIND;
     let mut piece = piece_of(&[
-        0x01, a, b, c, d, nexus, attr, 0, 0, 0, 0, 0, 0, 0, 0, e, f, g, h,
+        kind, a, b, c, d, nexus, attr, 0, 0, 0, 0, 0, 0, 0, 0, e, f, g, h,
     ]);
     append(&mut piece, &write_cdb(&draw.command()));
     piece
@@ -52,5 +54,7 @@ pub fn burst_piece(number: u32) -> Piece
     ensures { result.items ≡ all_spelled (burst number) }
 {
     let [a, b, c, d] = number.to_be_bytes();
-    piece_of(&[0x04, 0, 0, 0, 5, 4, a, b, c, d, 0x03, 0, 0, 0, 2, 0, 16])
+    let mut piece = piece_of(&[BENCH_KIND, 0, 0, 0, 5, ORDER_EVENT, a, b, c, d]);
+    append(&mut piece, &[TURN_KIND, 0, 0, 0, 2, 0, 16]);
+    piece
 }

@@ -8,6 +8,7 @@ ghost use Rattle.satl_io.specs.Causes.{HasCause};
 use crate::ahead::Ahead;
 use crate::draw::seeded;
 use crate::pieces::{Piece, piece_of};
+use satl_frame::FIRST_MAGIC;
 use satl_io::{Failed, Source};
 use std::io::Read;
 use std::marker::Model;
@@ -39,7 +40,7 @@ impl GenSource {
         ensures { result ≡ generated seed requests }
     {
         GenSource {
-            ready: piece_of(b"SATLRPL1"),
+            ready: piece_of(&FIRST_MAGIC),
             at: 0,
             ahead: Ahead {
                 blocks: 0,
