@@ -1,6 +1,6 @@
 -- What is done to all sectors at once.
-use Rattle.std.specs.Prelude.{◌≡◌, ℕ, Bool, true, false, List, [], ◌∷◌, Option, Some, None}
-use Rattle.std.specs.List.{list_any}
+use Rattle.std.specs.Prelude.{◌≡◌, ℕ, Bool, true, false, List, Option, Some, None}
+use Rattle.std.specs.List.{fold, list_any}
 use Rattle.satl_audit.specs.Kept.{Keeping, kept_power, kept_settle, known_sector}
 use Rattle.satl_audit.specs.Sectors.{sector_show}
 use Rattle.satl_audit.specs.declared.sectors.Sweep.{Sweep}
@@ -13,8 +13,7 @@ swept Powered k = kept_power k
 
 -- a sector that has missed these, in order (profile)
 abbrev pub caught_up : List Sweep → Keeping → Keeping
-caught_up [] k = k
-caught_up (s ∷ ss) k = caught_up ss (swept s k)
+caught_up sweeps k = fold (λ k s. swept s k) k sweeps
 
 -- whether it is a loss of power (profile)
 abbrev pub is_power : Sweep → Bool
