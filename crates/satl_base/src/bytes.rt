@@ -1,14 +1,7 @@
-<<<<<<< HEAD
 // Bytes and ranges that are put together, the sum of bytes, and whether they are zeros.
 ghost use Rattle.std.specs.Prelude.{◌≡◌, ◌≤◌, ◌<◌, ◌+◌, ◌++◌, [], ◌∷◌, filter, length};
 ghost use Rattle.arrayvec.specs.ArrayVec.{array_vec_len};
 ghost use Rattle.satl_base.specs.Blocks.{is_used, is_zeros};
-=======
-// Bytes that are put together, their sum, and whether they are zeros.
-ghost use Rattle.std.specs.Prelude.{◌≡◌, ◌≤◌, ◌+◌, ◌++◌, length};
-ghost use Rattle.arrayvec.specs.ArrayVec.{array_vec_len};
-ghost use Rattle.satl_base.specs.Blocks.{is_zeros};
->>>>>>> 4ef736ff5a9e980941ed3f7ed6ed206258c6b933
 ghost use Rattle.satl_base.specs.Identify.{checksum};
 
 use crate::block::Range;
@@ -25,7 +18,6 @@ pub fn append<const N: usize>(bytes: &mut ArrayVec<u8, N>, more: &[u8])
     };
 }
 
-<<<<<<< HEAD
 /// Appends a range for which there is room, unless it has no blocks: such an entry of a list is not used (SBC-3, UNMAP; ACS-3,
 /// DATA SET MANAGEMENT).
 pub fn push_used<const N: usize>(ranges: &mut ArrayVec<Range, N>, range: Range)
@@ -38,8 +30,6 @@ pub fn push_used<const N: usize>(ranges: &mut ArrayVec<Range, N>, range: Range)
     }
 }
 
-=======
->>>>>>> 4ef736ff5a9e980941ed3f7ed6ed206258c6b933
 /// Whether all the bytes are zeros, as those of LUN 0 are, and those of the block of a WRITE SAME that unmaps (profile).
 pub fn are_zeros(bytes: &[u8]) -> bool
     ensures { result ≡ is_zeros bytes.now }

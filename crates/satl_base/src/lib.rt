@@ -17,11 +17,7 @@ mod steps;
 
 pub use bench::{BenchEvent, OrderBytes, Which};
 pub use block::{BLOCK_BYTES, Block, Range};
-<<<<<<< HEAD
 pub use bytes::{append, are_zeros, checksum_of, push_used};
-=======
-pub use bytes::{append, are_zeros, checksum_of};
->>>>>>> 4ef736ff5a9e980941ed3f7ed6ed206258c6b933
 pub use lender::Lender;
 pub use limits::{
     INPUT_LIMIT, LONGEST_DATA, MOST_COVERED, MOST_HELD, MOST_MOVED, MOST_RANGES, MOST_TASKS,
