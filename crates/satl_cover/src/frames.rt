@@ -6,6 +6,7 @@ use crate::fault::AuditFault;
 use crate::nothing::NoPages;
 use crate::noting::Noted;
 use crate::slice::Slice;
+use satl_base::INPUT_LIMIT;
 use satl_frame::{Frame, FrameFault, FrameReader, LONGEST_EVENT};
 use std::alloc::Global;
 
