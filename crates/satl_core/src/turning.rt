@@ -17,7 +17,6 @@ use crate::alone::Alone;
 use crate::medium::{compare_range, trim_ranges, verify_range, write_range};
 use crate::passing::run_through;
 use arrayvec::ArrayVec;
-use satl_asks::{link_lost, not_ready};
 use satl_barrier::{flush, switch, tune};
 use satl_base::{Modes, Pages, Replies, Reply, Scsi, Steps};
 use satl_cdb::Command;
@@ -96,7 +95,7 @@ pub fn run_task<D: Drive, L: Ledger>(
 fn not_ready() -> Ending
     ensures { result ≡ Ending.Check Senses.not_ready }
 {
-    Ending::Check(not_ready())
+    Ending::Check(satl_asks::not_ready())
 }
 
 /// Carries out what runs alone, on a drive whose link is up. `LinkDown`: the link was lost meanwhile.
@@ -159,7 +158,7 @@ pub fn started_after(command: &Command, ending: Ending, started: bool) -> bool
 pub fn link_lost() -> Ending
     ensures { result ≡ Ending.Check Senses.link_lost }
 {
-    Ending::Check(link_lost())
+    Ending::Check(satl_asks::link_lost())
 }
 
 /// Answers all tasks in order of arrival: the link is lost, and nothing is outstanding. The desk is where each lies meanwhile.
