@@ -15,7 +15,7 @@ use Rattle.satl_cdb.specs.Table.{says}
 use Rattle.satl_direct.specs.Device.{Device, is_of}
 use Rattle.satl_direct.specs.Arrival.{Arrival, ArrivesAs, arrival, is_unit_0}
 use Rattle.satl_direct.specs.Arrival.Arrival.{answered, attended, overlaps, waits}
-use Rattle.satl_direct.proofs.Naming.{own_filtered, own_pushed}
+use Rattle.satl_direct.proofs.Naming.{own_filtered, own_none, own_pushed}
 use Rattle.satl_audit.specs.Deeds.{Deed}
 use Rattle.satl_cover.specs.Known.{is_known, is_known_frame}
 use Rattle.satl_audit.specs.Skeleton.{Benched, Stepped}
@@ -37,7 +37,7 @@ benched_keep (events.Strike which lba) s u ds k e = absurd e
 benched_keep (events.Mend lba) s u ds k e = absurd e
 benched_keep (events.Glitch count) s u ds k e = absurd e
 benched_keep (events.Order order) s u ds k e = subst Kept (sym e.1) k
-benched_keep events.Power s u ds k e = subst Kept (sym e.1) (record { own = tt; fine = tt })
+benched_keep events.Power s u ds k e = subst Kept (sym e.1) (record { own = own_none; fine = tt })
 benched_keep events.Unplug s u ds k e = absurd e
 
 pub stepped_keep : (event : Frame) (s u : Device) (now : List Answer) (ds : List Deed) → Kept s → IsFineFrame event → is_known_frame s.identity.trim event ≡ true → Stepped event s now ds u → Kept u

@@ -1,8 +1,7 @@
 -- The task that the next answer names.
 use Rattle.std.proofs.Common.{arith, ◌≡◌, refl, sym, ap, ◌∙◌, subst, ℕ, zero, suc, ◌+◌, Bool, true, false, List, [], ◌∷◌, length, cond}
 use Rattle.std.specs.Prelude.{◌<◌, if◌then◌else◌, Some, remove, slice_get}
-use Rattle.std.specs.List.{AllByRecursion, list_any, position_from}
-use Rattle.std.proofs.lemmas.Bool.{or_parts}
+use Rattle.std.specs.List.{AllByRecursion, position_from}
 use Rattle.satl_base.specs.Lists.{remove_first}
 use Rattle.satl_line.specs.declared.entry.Entry.{Entry}
 use Rattle.satl_line.specs.Conflict.{conflicts}
@@ -10,19 +9,19 @@ use Rattle.satl_line.specs.Eligible.{eligible_at}
 use Rattle.satl_line.proofs.EligibleLemmas.{eligible_by-formed}
 use Rattle.satl_direct.specs.Device.{is_called, without}
 use Rattle.satl_direct.specs.Valid.{AreOwn}
-use Rattle.satl_direct.proofs.Naming.{called_apart, called_self}
+use Rattle.satl_direct.proofs.Naming.{called_apart, called_self, own_first, own_rest}
 use Rattle.satl_audit.specs.Waiting.{Placed, device_tasks, entries_in, has_name, task_in}
 
 module _ (input : List ℕ) where
   -- a task among those of which none passes
-  none_passes : (f : Entry → Bool) (ps : List Placed) (place : ℕ) (p : Placed) → list_any f (device_tasks input ps) ≡ false → slice_get ps place ≡ Some p → f (task_in input p) ≡ false
+  none_passes : (f : Entry → Bool) (ps : List Placed) (place : ℕ) (p : Placed) → AllByRecursion (λ t. f t ≡ false) (device_tasks input ps) → slice_get ps place ≡ Some p → f (task_in input p) ≡ false
   none_passes f [] place p none at = absurd cc
-  none_passes f (q ∷ ps) zero p none at = let same : q ≡ p = cc in ap (λ (x : Placed). f (task_in input x)) (sym same) ∙ (or_parts (f (task_in input q)) (list_any f (device_tasks input ps)) none).0
-  none_passes f (q ∷ ps) (suc place) p none at = none_passes f ps place p (or_parts (f (task_in input q)) (list_any f (device_tasks input ps)) none).1 at
+  none_passes f (q ∷ ps) zero p none at = let same : q ≡ p = cc in ap (λ (x : Placed). f (task_in input x)) (sym same) ∙ none.0
+  none_passes f (q ∷ ps) (suc place) p none at = none_passes f ps place p none.1 at
 
   -- an earlier task has another name
   earlier_apart : (q : Placed) (ps : List Placed) (place : ℕ) (p : Placed) → AreOwn (device_tasks input (q ∷ ps)) → slice_get ps place ≡ Some p → is_called p.entry.nexus (p.entry.tag).0 (task_in input q) ≡ false
-  earlier_apart q ps place p own at = called_apart (task_in input q) (task_in input p) (none_passes (is_called q.entry.nexus (q.entry.tag).0) ps place p own.0 at)
+  earlier_apart q ps place p own at = called_apart (task_in input q) (task_in input p) (none_passes (is_called q.entry.nexus (q.entry.tag).0) ps place p (own_first (task_in input q) (device_tasks input ps) own) at)
 
   pub named_at : (ps : List Placed) (place n : ℕ) (p : Placed) → AreOwn (device_tasks input ps) → slice_get ps place ≡ Some p → position_from (has_name p.entry.nexus (p.entry.tag).0) n ps ≡ Some (n + place)
   named_at [] place n p own at = absurd cc
@@ -33,7 +32,7 @@ module _ (input : List ℕ) where
   named_at (q ∷ ps) (suc place) n p own at =
       let further : (n + 1) + place ≡ n + suc place = omega arith in
       ap (λ (b : Bool). cond b (Some n) (position_from (has_name p.entry.nexus (p.entry.tag).0) (n + 1) ps)) (earlier_apart q ps place p own at)
-      ∙ named_at ps place (n + 1) p own.1 at
+      ∙ named_at ps place (n + 1) p (own_rest (task_in input q) (device_tasks input ps) own) at
       ∙ ap Some further
 
   pub removed_at : (ps : List Placed) (place : ℕ) (p : Placed) → AreOwn (device_tasks input ps) → slice_get ps place ≡ Some p → device_tasks input (remove ps place) ≡ without (task_in input p) (device_tasks input ps)
@@ -42,7 +41,7 @@ module _ (input : List ℕ) where
       let same : q ≡ p = cc in
       sym (ap (λ (b : Bool). if b then device_tasks input ps else task_in input q ∷ remove_first (is_called p.entry.nexus (p.entry.tag).0) (device_tasks input ps)) (ap (λ (x : Placed). is_called p.entry.nexus (p.entry.tag).0 (task_in input x)) same ∙ called_self p.entry))
   removed_at (q ∷ ps) (suc place) p own at =
-      ap (λ (l : List Entry). task_in input q ∷ l) (removed_at ps place p own.1 at)
+      ap (λ (l : List Entry). task_in input q ∷ l) (removed_at ps place p (own_rest (task_in input q) (device_tasks input ps) own) at)
       ∙ sym (ap (λ (b : Bool). if b then device_tasks input ps else task_in input q ∷ remove_first (is_called p.entry.nexus (p.entry.tag).0) (device_tasks input ps)) (earlier_apart q ps place p own at))
 
   -- the task of the device at a place

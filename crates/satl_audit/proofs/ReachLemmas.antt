@@ -15,6 +15,7 @@ use Rattle.satl_frame.specs.Magic.{magic}
 use Rattle.satl_frame.specs.Output.{all_answered, out, out_magic}
 use Rattle.satl_frame.specs.Pulls.{cut_to}
 use Rattle.satl_direct.specs.Arrival.{is_unit_0}
+use Rattle.satl_direct.proofs.Naming.{own_none}
 use Rattle.satl_laws.specs.ArrivalOrder.{AskOnce}
 use Rattle.satl_cover.specs.Covered.{AreCovered, is_covered, is_repeated, place_behind}
 use Rattle.satl_cover.specs.Known.{is_known, is_known_frame}
@@ -70,7 +71,7 @@ module _ (identity : Identity) (is : IsIdentity identity) (input output : List â
   once_before nexus tag = once_of identity.trim nexus tag [] so_far (covered_front identity.trim [] so_far (event âˆ· later) covered) (omega arith)
 
   kept : Kept (device_at identity input steps)
-  kept = (steps_fixed reached.skeleton (record { own = tt; fine = tt }) known_before fine_before reached.whole reached.answers reached.deeds (device_at identity input steps) reached.skeleton reached.whole [] [] refl).kept
+  kept = (steps_fixed reached.skeleton (record { own = own_none; fine = tt }) known_before fine_before reached.whole reached.answers reached.deeds (device_at identity input steps) reached.skeleton reached.whole [] [] refl).kept
 
   pub tasks_here : AreTasks identity input steps.waiting
   tasks_here = record { own = kept.own; tags = tags_of (device_tasks input steps.waiting) kept.fine; expected = expected_of (device_tasks input steps.waiting) kept.fine; fit = reached.fit }

@@ -9,6 +9,7 @@ use Rattle.satl_identify.specs.declared.identity.Identity.{Identity}
 use Rattle.satl_identify.specs.Refusals.{IsIdentity}
 use Rattle.satl_frame.specs.declared.frames.Frame.{Frame}
 use Rattle.satl_frame.specs.Output.{all_answered, out, out_magic}
+use Rattle.satl_direct.proofs.Naming.{own_none}
 use Rattle.satl_audit.specs.Advancing.{CannotGoOn}
 use Rattle.satl_audit.specs.Arriving.{device_at}
 use Rattle.satl_audit.specs.Deciding.{EachSectored, IsInput}
@@ -119,7 +120,7 @@ module _ (identity : Identity) (is : IsIdentity identity) (input output : List �
       let bytes : all_answered reached.answers ++ steps.output ≡ all_answered t.answers ++ [] =
       after_same out_magic out_magic (all_answered reached.answers ++ steps.output) (all_answered t.answers) refl (sym (append_assoc out_magic (all_answered reached.answers) steps.output) ∙ sym reached.said ∙ t.same)
       ∙ sym (append-nil (all_answered t.answers)) in
-      some (((steps_fixed reached.skeleton (record { own = tt; fine = tt }) ((h.audited).known) h.fine reached.whole t.answers others.0 t.last t.skeleton t.whole steps.output [] bytes).same).rest_same)
+      some (((steps_fixed reached.skeleton (record { own = own_none; fine = tt }) ((h.audited).known) h.fine reached.whole t.answers others.0 t.last t.skeleton t.whole steps.output [] bytes).same).rest_same)
 
   -- the output does not begin as all do
   pub no_magic : ((rest : List ℕ) → output ≡ out_magic ++ rest → ⊥) → IsExplained (blank identity) all output → ⊥

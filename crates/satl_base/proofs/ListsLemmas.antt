@@ -3,7 +3,6 @@ use Rattle.std.proofs.Common.{◌≡◌, ◌⊎◌, ⊎_elim, refl, sym, ◌∙�
 use Rattle.std.specs.Prelude.{map, if◌then◌else◌, slice_index_or, ◌||◌, filter, slice_get}
 use Rattle.std.specs.Option.{option_map}
 use Rattle.std.specs.List.{AllByRecursion, find, position_from, remove, list_any, sum_by}
-use Rattle.std.proofs.lemmas.Bool.{or_parts}
 use Rattle.std.proofs.lemmas.List.Folds.{fold-map}
 use Rattle.satl_base.specs.Lists.{remove_first, IsIn, how_many, LeavesOut}
 
@@ -179,20 +178,6 @@ leaves_in v (x ∷ xs) (y ∷ ys) h i =
 pub leaves_only : {X : Type 0} (v : X) (xs : List X) → IsIn v xs → LeavesOut xs (v ∷ [])
 leaves_only v [] i = absurd i
 leaves_only v (x ∷ xs) i = ⊎_elim (λ e. inr (sym e, leaves_all xs)) (λ r. inl (leaves_only v xs r)) i
-
--- what passes for none passes for none of fewer, nor with one more that does not pass
-pub none_filtered : {X : Type 0} (p q : X → Bool) (xs : List X) → list_any p xs ≡ false → list_any p (filter q xs) ≡ false
-none_filtered p q [] h = refl
-none_filtered p q (x ∷ xs) h =
-    let both = or_parts (p x) (list_any p xs) h in
-    elim (q x) as (λ b. list_any p (if b then x ∷ filter q xs else filter q xs) ≡ false)
-    [ true ↦ rw both.0 (none_filtered p q xs both.1) | false ↦ none_filtered p q xs both.1 ]
-
-pub none_pushed : {X : Type 0} (p : X → Bool) (xs : List X) (y : X) → list_any p xs ≡ false → p y ≡ false → list_any p (xs ++ y ∷ []) ≡ false
-none_pushed p [] y h e = rw e refl
-none_pushed p (x ∷ xs) y h e =
-    let both = or_parts (p x) (list_any p xs) h in
-    rw both.0 (none_pushed p xs y both.1 e)
 
 pub All-filter : {X : Type 0} (P : X → Type 0) (p : X → Bool) (xs : List X) → AllByRecursion P xs → AllByRecursion P (filter p xs)
 All-filter P p [] all = all

@@ -1,8 +1,7 @@
 -- The layer and its drive agree, as tasks are issued, end and go, and as the link is lost.
 use Rattle.std.proofs.Common.{◌≡◌, ⊎_elim, refl, sym, ap, subst, ◌∙◌, arith, ℕ, zero, suc, ◌+◌, ◌≤◌, Bool, true, false, List, [], ◌∷◌, length, map, None, Some}
-use Rattle.std.specs.Prelude.{not, ◌||◌, ◌^◌, MatchBool}
-use Rattle.std.specs.List.{AllByRecursion, AllZip, list_any, remove}
-use Rattle.std.proofs.lemmas.Bool.{or_parts}
+use Rattle.std.specs.Prelude.{not, ◌^◌, MatchBool}
+use Rattle.std.specs.List.{AllByRecursion, AllZip, remove}
 use Rattle.std.proofs.lemmas.List.Sums.{sum_by-cons}
 use Rattle.satl_base.specs.declared.block.Block.{Block}
 use Rattle.satl_base.specs.declared.block.Range.{Range}
@@ -34,6 +33,7 @@ use Rattle.satl_barrier.proofs.ToldLemmas.{all_bytes, retold}
 use Rattle.satl_direct.specs.Device.{Device}
 use Rattle.satl_direct.specs.Tasks.{held_by, task_of}
 use Rattle.satl_direct.specs.Valid.{AreOwn, HasCome, IsValid}
+use Rattle.satl_direct.proofs.Naming.{own_first, own_more, own_none, own_rest}
 use Rattle.satl_core.specs.Layer.{Agrees, CanTrim, IsKept, IsUsed, Layer, Tied, entry_pages, view, works}
 use Rattle.satl_core.proofs.QueuedLemmas.{by_command, queue_on}
 use Rattle.satl_core.proofs.TieLemmas.{bytes_long}
@@ -58,21 +58,11 @@ valid_with_cells s new cells started active down glitches size sound same v =
       attentions = v.attentions;
     })
 
-none_removed : (q : Entry → Bool) (ts : List Entry) (place : ℕ) → list_any q ts ≡ false → list_any q (remove ts place) ≡ false
-none_removed q [] zero none = none
-none_removed q [] (suc place) none = none
-none_removed q (t ∷ ts) zero none = (or_parts (q t) (list_any q ts) none).1
-none_removed q (t ∷ ts) (suc place) none = both (q t) (list_any q ts) none (none_removed q ts place)
-  where
-    both : (a b : Bool) → (a || b) ≡ false → (b ≡ false → list_any q (remove ts place) ≡ false) → (a || list_any q (remove ts place)) ≡ false
-    both true b e rest = absurd cc
-    both false b e rest = rest e
-
 own_removed : (ts : List Entry) (place : ℕ) → AreOwn ts → AreOwn (remove ts place)
 own_removed [] zero own = own
 own_removed [] (suc place) own = own
-own_removed (t ∷ ts) zero own = own.1
-own_removed (t ∷ ts) (suc place) own = (none_removed _ ts place own.0, own_removed ts place own.1)
+own_removed (t ∷ ts) zero own = own_rest t ts own
+own_removed (t ∷ ts) (suc place) own = own_more t (remove ts place) (All-remove _ ts place (own_first t ts own)) (own_removed ts place (own_rest t ts own))
 
 fewer_removed : (ts : List Entry) (place : ℕ) → (length (remove ts place) ≤ length ts) × (held_by (remove ts place) ≤ held_by ts)
 fewer_removed [] zero = (omega arith, omega arith)
@@ -242,7 +232,7 @@ tied_lost l new d d' left same agrees =
           sound = left.sound agrees.valid.sound;
           few = omega arith;
           blocks = omega arith;
-          own = tt;
+          own = own_none;
           come = tt;
           modes = agrees.valid.modes;
           nexuses = agrees.valid.nexuses;

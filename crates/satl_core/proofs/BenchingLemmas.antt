@@ -40,6 +40,7 @@ use Rattle.satl_base.specs.Moves.{Moves}
 use Rattle.satl_base.specs.Lists.{change_at}
 use Rattle.satl_base.proofs.Booleans.{not-not}
 use Rattle.satl_direct.specs.Quiet.{MayShow}
+use Rattle.satl_direct.proofs.Naming.{own_none}
 use Rattle.satl_direct.proofs.Quieting.{quiet_none, around_alone}
 use Rattle.satl_core.specs.Layer.{Layer, Tied, view, works}
 use Rattle.satl_core.proofs.AgreeingLemmas.{IsLeftDown, agrees_by, idle_in_flight, settings_kept, still_told, tied_lost, valid_with_cells}
@@ -188,7 +189,7 @@ valid_powered l d d' slots free out p v = record {
   sound = left_behind-sound d.cells d'.cells p.cells;
   few = omega arith;
   blocks = omega arith;
-  own = tt;
+  own = own_none;
   come = tt;
   modes = record { cache = λ none. none; look = λ none. ap not none };
   nexuses = refl;

@@ -26,6 +26,7 @@ use Rattle.satl_core.specs.declared.turning.Ending.TheVariants as endings
 use Rattle.satl_core.specs.Flushed.{IsFlush, IsFlushed, IsSettled}
 use Rattle.satl_core.specs.Turning.{DoneAlone, IsUnasked, TaskEnds, TaskOnDrive, ended_reply, ending_status, task_on}
 use Rattle.satl_direct.specs.Valid.{AreOwn}
+use Rattle.satl_direct.proofs.Naming.{none_of_each, own_first, own_rest}
 use Rattle.satl_core.proofs.HeldLemmas.{IsFirst}
 use Rattle.satl_core.proofs.QueuedLemmas.{by_command}
 
@@ -113,11 +114,11 @@ one_named [] t u place own among stands nexus tag = absurd among
 one_named (h ∷ tasks) t u zero own among stands nexus tag =
     let here : h ≡ u = cc in
     ⊎_elim (λ e. ap (λ (x : Held). x.entry) (e ∙ here))
-    (λ i. let there = called_in h.entry.nexus h.entry.tag t tasks i (nexus ∙ ap (λ (x : Held). x.entry.nexus) (sym here)) (tag ∙ ap (λ (x : Held). x.entry.tag) (sym here)) in let none = own.0 in absurd cc) among
+    (λ i. let there = called_in h.entry.nexus h.entry.tag t tasks i (nexus ∙ ap (λ (x : Held). x.entry.nexus) (sym here)) (tag ∙ ap (λ (x : Held). x.entry.tag) (sym here)) in let none = none_of_each (is_called h.entry.nexus (h.entry.tag).0) (map task_of (entries_of tasks)) (own_first _ _ own) in absurd cc) among
 one_named (h ∷ tasks) t u (suc place) own among stands nexus tag =
     ⊎_elim
-    (λ e. let there = called_in h.entry.nexus h.entry.tag u tasks (is_in_at tasks place u stands) (sym nexus ∙ ap (λ (x : Held). x.entry.nexus) e) (sym tag ∙ ap (λ (x : Held). x.entry.tag) e) in let none = own.0 in absurd cc)
-    (λ i. one_named tasks t u place own.1 i stands nexus tag) among
+    (λ e. let there = called_in h.entry.nexus h.entry.tag u tasks (is_in_at tasks place u stands) (sym nexus ∙ ap (λ (x : Held). x.entry.nexus) e) (sym tag ∙ ap (λ (x : Held). x.entry.tag) e) in let none = none_of_each (is_called h.entry.nexus (h.entry.tag).0) (map task_of (entries_of tasks)) (own_first _ _ own) in absurd cc)
+    (λ i. one_named tasks t u place (own_rest _ _ own) i stands nexus tag) among
   where
     is_in_at : (ts : List Held) (k : ℕ) (x : Held) → slice_get ts k ≡ Some x → IsIn x ts
     is_in_at [] k x at = absurd cc

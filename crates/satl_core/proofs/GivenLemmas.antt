@@ -24,7 +24,7 @@ use Rattle.satl_drive.specs.State.{DriveState, Outstanding}
 use Rattle.satl_direct.specs.Device.{is_called}
 use Rattle.satl_direct.specs.Tasks.{data_out_kept, task_of}
 use Rattle.satl_direct.specs.Valid.{AreOwn}
-use Rattle.satl_direct.proofs.Naming.{called-sym, called_same}
+use Rattle.satl_direct.proofs.Naming.{called-sym, called_same, own_first, own_rest}
 use Rattle.satl_flight.specs.declared.flight.Flying.{Flying}
 use Rattle.satl_flight.specs.Flown as flown
 use Rattle.satl_flight.specs.Flown.{IsFlown, IsInFlight, clash, is_in_slot}
@@ -145,28 +145,26 @@ module _ (tasks : List Held) (modes : Modes) (started : Bool) (attentions : List
 
 -- ---- what is given is apart
 
-any_found : (p : Entry → Bool) (q : Held → Bool) (hs : List Held) (b : Held) → list_any p (map task_of (entries_of hs)) ≡ false → find q hs ≡ Some b → p (task_of b.entry) ≡ false
+any_found : (p : Entry → Bool) (q : Held → Bool) (hs : List Held) (b : Held) → AllByRecursion (λ t. p t ≡ false) (map task_of (entries_of hs)) → find q hs ≡ Some b → p (task_of b.entry) ≡ false
 any_found p q [] b none found = absurd cc
-any_found p q (h ∷ hs) b none found = go (p (task_of h.entry)) refl none (q h) refl found (λ n f. any_found p q hs b n f)
+any_found p q (h ∷ hs) b none found = go (q h) found (any_found p q hs b none.1)
   where
-    go : (x : Bool) → p (task_of h.entry) ≡ x → (x || list_any p (map task_of (entries_of hs))) ≡ false → (y : Bool) → q h ≡ y → cond y (Some h) (find q hs) ≡ Some b
-        → (list_any p (map task_of (entries_of hs)) ≡ false → find q hs ≡ Some b → p (task_of b.entry) ≡ false) → p (task_of b.entry) ≡ false
-    go true px n y qy f rest = absurd cc
-    go false px n true qy f rest = let one : h ≡ b = cc in ap (λ (k : Held). p (task_of k.entry)) (sym one) ∙ px
-    go false px n false qy f rest = rest n f
+    go : (y : Bool) → cond y (Some h) (find q hs) ≡ Some b → (find q hs ≡ Some b → p (task_of b.entry) ≡ false) → p (task_of b.entry) ≡ false
+    go true f rest = let one : h ≡ b = cc in ap (λ (k : Held). p (task_of k.entry)) (sym one) ∙ none.0
+    go false f rest = rest f
 
 -- two tasks in different slots have different names
 other_name : (hs : List Held) (i j : ℕ) (a b : Held) → AreOwn (map task_of (entries_of hs)) → (i == j) ≡ false → find (is_in_slot i) hs ≡ Some a → find (is_in_slot j) hs ≡ Some b → is_called a.entry.nexus (a.entry.tag).0 (task_of b.entry) ≡ false
 other_name [] i j a b own apart fa fb = absurd cc
-other_name (h ∷ hs) i j a b own apart fa fb = go (h.slot == i) refl fa (h.slot == j) refl fb (λ x y. other_name hs i j a b own.1 apart x y)
+other_name (h ∷ hs) i j a b own apart fa fb = go (h.slot == i) refl fa (h.slot == j) refl fb (λ x y. other_name hs i j a b (own_rest _ _ own) apart x y)
   where
     go : (x : Bool) → (h.slot == i) ≡ x → cond x (Some h) (find (is_in_slot i) hs) ≡ Some a → (y : Bool) → (h.slot == j) ≡ y → cond y (Some h) (find (is_in_slot j) hs) ≡ Some b
         → (find (is_in_slot i) hs ≡ Some a → find (is_in_slot j) hs ≡ Some b → is_called a.entry.nexus (a.entry.tag).0 (task_of b.entry) ≡ false) → is_called a.entry.nexus (a.entry.tag).0 (task_of b.entry) ≡ false
     go true hi fa true hj fb rest = let no : (i == j) ≡ true = eq-eqb i j (sym (eqb-true h.slot i hi) ∙ eqb-true h.slot j hj) in absurd cc
-    go true hi fa false hj fb rest = let one : h ≡ a = cc in any_found (is_called a.entry.nexus (a.entry.tag).0) (is_in_slot j) hs b (ap (λ (k : Held). list_any (is_called k.entry.nexus (k.entry.tag).0) (map task_of (entries_of hs))) (sym one) ∙ own.0) fb
+    go true hi fa false hj fb rest = let one : h ≡ a = cc in ap (λ (k : Held). is_called k.entry.nexus (k.entry.tag).0 (task_of b.entry)) (sym one) ∙ any_found (is_called h.entry.nexus (h.entry.tag).0) (is_in_slot j) hs b (own_first _ _ own) fb
     go false hi fa true hj fb rest =
         let one : h ≡ b = cc in
-        called-sym (task_of a.entry) (task_of b.entry) ∙ any_found (is_called b.entry.nexus (b.entry.tag).0) (is_in_slot i) hs a (ap (λ (k : Held). list_any (is_called k.entry.nexus (k.entry.tag).0) (map task_of (entries_of hs))) (sym one) ∙ own.0) fa
+        called-sym (task_of a.entry) (task_of b.entry) ∙ ap (λ (k : Held). is_called k.entry.nexus (k.entry.tag).0 (task_of a.entry)) (sym one) ∙ any_found (is_called h.entry.nexus (h.entry.tag).0) (is_in_slot i) hs a (own_first _ _ own) fa
     go false hi fa false hj fb rest = rest fa fb
 
 abbrev IsFound : List Held → Flying → Type 0

@@ -20,6 +20,7 @@ use Rattle.satl_drive.specs.Queue.{Slots}
 use Rattle.satl_flight.specs.Lending.{Waiting}
 use Rattle.satl_flight.specs.Queueing.{empty}
 use Rattle.satl_flight.specs.Settled.{IsFilled}
+use Rattle.satl_direct.proofs.Naming.{own_none}
 use Rattle.satl_core.specs.Layer.{Agrees, held_pages}
 use Rattle.satl_core.proofs.AgreeingLemmas.{idle_in_flight}
 use Rattle.satl_core.proofs.TieLemmas.{layer_of}
@@ -64,7 +65,7 @@ agrees old new given taken i modes slots free idle no_error told fit fit' judged
         sound = loses-sound old.cells new.cells told.lost;
         few = omega arith;
         blocks = omega arith;
-        own = tt;
+        own = own_none;
         come = tt;
         modes = record {
           cache = λ none. wce ∙ (sym (ap (λ (j : Identity). j.cache_on) say) ∙ (fit.cache_told ∙ off old.cache (has_cache old.identify) fit.cache (ap (λ (j : Identity). j.cache) say ∙ none)));

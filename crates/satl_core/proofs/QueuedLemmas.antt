@@ -1,8 +1,7 @@
 -- What the queue does is what the device does.
 use Rattle.std.proofs.Common.{◌≡◌, refl, sym, ◌∙◌, ap, subst, inl, ⊎_elim, ℕ, zero, suc, Bool, true, false, List, [], ◌∷◌, Option, Some, None, arith}
 use Rattle.std.specs.Prelude.{◌==◌, ◌&&◌, ◌||◌, not, map, MatchBool, slice_get, if◌then◌else◌}
-use Rattle.std.specs.List.{list_any, remove}
-use Rattle.std.proofs.lemmas.Bool.{or_parts}
+use Rattle.std.specs.List.{AllByRecursion, remove}
 use Rattle.satl_base.specs.declared.block.Block.{Block}
 use Rattle.satl_base.specs.declared.block.Range.{Range}
 use Rattle.satl_base.specs.declared.reply.Reply.{Reply}
@@ -41,7 +40,7 @@ use Rattle.satl_direct.specs.Turn.Turn.{loses}
 use Rattle.satl_direct.specs.Quiet.{Around}
 use Rattle.satl_direct.specs.Valid.{AreOwn}
 use Rattle.satl_direct.proofs.Quieting.{quiet_none}
-use Rattle.satl_direct.proofs.Naming.{called_same}
+use Rattle.satl_direct.proofs.Naming.{called_same, own_first, own_rest}
 use Rattle.satl_flight.specs.Flown.{clash}
 use Rattle.satl_flight.specs.Lending.{waiting}
 use Rattle.satl_flight.specs.Settled.{HasEndedAt, IsFilled, IsFlawOrCrc, IsLostInFlight, IsLostQuietly, OnDrive, on_drive, outcome_of, read_into}
@@ -143,12 +142,12 @@ may_show s cache entries pair tasks_are wce up started m = record {
 without_place : (tasks : List Entry) (place : ℕ) (t : Entry) → AreOwn tasks → slice_get tasks place ≡ Some t → without t tasks ≡ remove tasks place
 without_place [] place t own at = absurd cc
 without_place (u ∷ us) zero t own at = let one : u ≡ t = cc in ap (λ b. if b then us else u ∷ remove_first (is_called t.nexus (t.tag).0) us) (called_same u t one)
-without_place (u ∷ us) (suc place) t own at = ap (λ b. if b then us else u ∷ remove_first (is_called t.nexus (t.tag).0) us) (other us place own.0 at) ∙ ap (λ xs. u ∷ xs) (without_place us place t own.1 at)
+without_place (u ∷ us) (suc place) t own at = ap (λ b. if b then us else u ∷ remove_first (is_called t.nexus (t.tag).0) us) (other us place (own_first u us own) at) ∙ ap (λ xs. u ∷ xs) (without_place us place t (own_rest u us own) at)
   where
-    other : (ts : List Entry) (k : ℕ) → list_any (is_called u.nexus (u.tag).0) ts ≡ false → slice_get ts k ≡ Some t → is_called t.nexus (t.tag).0 u ≡ false
+    other : (ts : List Entry) (k : ℕ) → AllByRecursion (λ v. is_called u.nexus (u.tag).0 v ≡ false) ts → slice_get ts k ≡ Some t → is_called t.nexus (t.tag).0 u ≡ false
     other [] k none is = absurd cc
-    other (x ∷ xs) zero none is = let one : x ≡ t = cc in ap (λ b. b && ((u.tag).0 == (t.tag).0)) (eqb-sym u.nexus t.nexus) ∙ ap (λ b. (t.nexus == u.nexus) && b) (eqb-sym (u.tag).0 (t.tag).0) ∙ ap (is_called u.nexus (u.tag).0) (sym one) ∙ (or_parts _ _ none).0
-    other (x ∷ xs) (suc k) none is = other xs k (or_parts _ _ none).1 is
+    other (x ∷ xs) zero none is = let one : x ≡ t = cc in ap (λ b. b && ((u.tag).0 == (t.tag).0)) (eqb-sym u.nexus t.nexus) ∙ ap (λ b. (t.nexus == u.nexus) && b) (eqb-sym (u.tag).0 (t.tag).0) ∙ ap (is_called u.nexus (u.tag).0) (sym one) ∙ none.0
+    other (x ∷ xs) (suc k) none is = other xs k none.1 is
 
 -- ---- a unit that works
 

@@ -28,7 +28,7 @@ use Rattle.satl_direct.specs.Device.{Device, is_called, is_of, once_told, attent
 use Rattle.satl_direct.specs.Tasks.{held_blocks, held_by, is_full, task_for, task_of, task_without_pages}
 use Rattle.satl_direct.specs.Valid.{HasCome, IsValid}
 use Rattle.satl_direct.proofs.Conditions.{valid_attended}
-use Rattle.satl_direct.proofs.Naming.{own_filtered, own_pushed}
+use Rattle.satl_direct.proofs.Naming.{own_filtered, own_pushed, own_rest}
 use Rattle.satl_flight.specs.Flown.{IsInFlight}
 use Rattle.satl_flight.specs.Settled.{IsFilled}
 use Rattle.satl_flight.proofs.ComingLemmas.{tie_come}
@@ -273,7 +273,7 @@ agrees_rest l new wanted posting rest entry ending d d' first kept unasked chang
         sound = stays.sound;
         few = omega (arith, v.few);
         blocks = fewer;
-        own = v.own.1;
+        own = own_rest _ _ v.own;
         come = v.come.1;
         modes = subst (AreModesOf l.identity) (sym changed) (valid_after l.down refl);
         nexuses = ap length told ∙ (once_length posting rest l.attentions ∙ v.nexuses);

@@ -1,6 +1,6 @@
 -- Which devices there can be (SAM-5, task set; SBC-3; the figures: profile).
-use Rattle.std.specs.Prelude.{◌≡◌, ◌*◌, ◌≤◌, false, List, [], ◌∷◌, length}
-use Rattle.std.specs.List.{AllByRecursion, list_any}
+use Rattle.std.specs.Prelude.{◌≡◌, ◌*◌, ◌≤◌, List, length}
+use Rattle.std.specs.List.{AllByRecursion, IsDistinct}
 use Rattle.satl_base.specs.declared.request.Request.{Request}
 use Rattle.satl_base.specs.Cells.{AreSound}
 use Rattle.satl_base.specs.Limits.{IsExpectable, most_held, most_tasks}
@@ -16,8 +16,7 @@ use Rattle.satl_direct.specs.Arrival.Arrival.{waits}
 
 -- no two tasks have the same nexus and tag (SAM-5 4.7, I_T_L_Q nexus)
 abbrev pub AreOwn : List Entry → Type 0
-AreOwn [] = Unit {0}
-AreOwn (t ∷ ts) = (list_any (is_called t.nexus (t.tag).0) ts ≡ false) × AreOwn ts
+AreOwn tasks = IsDistinct (λ t u. is_called t.nexus (t.tag).0 u) tasks
 
 -- a task has come: at a device of this identity, with mode values that its drive can have, its request became this task, so its
 -- operation code, fields, range and data-out were good and the task set had a place. The request has pages for its data-out,

@@ -9,8 +9,8 @@ use Rattle.satl_line.specs.Conflict.{conflicts}
 use Rattle.satl_line.specs.Eligible.{IsEligible}
 use Rattle.satl_direct.specs.Device.{is_called, without}
 use Rattle.satl_direct.specs.Valid.{AreOwn}
-use Rattle.satl_direct.proofs.Naming.{called_apart, called_self}
-use Rattle.satl_laws.proofs.Names.{none_in}
+use Rattle.satl_direct.proofs.Naming.{called_apart, called_self, own_first, own_rest}
+use Rattle.satl_laws.proofs.Rows.{in_all}
 
 -- one of a list, by its place
 pub record SplitAt {X : Type 0} (xs : List X) (x : X) : Type 0 where
@@ -30,8 +30,8 @@ split_at (y ∷ ys) x i =
 pub without_is : (before : List Entry) (t : Entry) (later : List Entry) → AreOwn (before ++ t ∷ later) → without t (before ++ t ∷ later) ≡ before ++ later
 without_is [] t later own = ap (λ b. if b then later else t ∷ without t later) (called_self t)
 without_is (u ∷ us) t later own =
-    let other : is_called t.nexus (t.tag).0 u ≡ false = called_apart u t (none_in (is_called u.nexus (u.tag).0) (us ++ t ∷ later) t own.0 (in_right t us (t ∷ later) (inl refl))) in
-    ap (λ b. if b then us ++ t ∷ later else u ∷ without t (us ++ t ∷ later)) other ∙ ap (λ l. u ∷ l) (without_is us t later own.1)
+    let other : is_called t.nexus (t.tag).0 u ≡ false = called_apart u t (in_all (λ v. is_called u.nexus (u.tag).0 v ≡ false) (us ++ t ∷ later) t (own_first u (us ++ t ∷ later) own) (in_right t us (t ∷ later) (inl refl))) in
+    ap (λ b. if b then us ++ t ∷ later else u ∷ without t (us ++ t ∷ later)) other ∙ ap (λ l. u ∷ l) (without_is us t later (own_rest u (us ++ t ∷ later) own))
 
 -- no task before an eligible one conflicts with it
 pub before_free : (before : List Entry) (t : Entry) (later : List Entry) → AreOwn (before ++ t ∷ later) → IsEligible (before ++ t ∷ later) t → AllByRecursion (λ u. conflicts u t ≡ false) before
@@ -40,8 +40,8 @@ before_free (u ∷ us) t later own el =
     ⊎_elim
     (λ same. absurd (let no : true ≡ false =
     sym (ap (λ k. is_called u.nexus (u.tag).0 k) (sym same) ∙ called_self u)
-    ∙ none_in (is_called u.nexus (u.tag).0) (us ++ t ∷ later) t own.0 (in_right t us (t ∷ later) (inl refl)) in cc))
-    (λ rest. (rest.0, before_free us t later own.1 rest.1))
+    ∙ in_all (λ v. is_called u.nexus (u.tag).0 v ≡ false) (us ++ t ∷ later) t (own_first u (us ++ t ∷ later) own) (in_right t us (t ∷ later) (inl refl)) in cc))
+    (λ rest. (rest.0, before_free us t later (own_rest u (us ++ t ∷ later) own) rest.1))
     el
 
 -- another one that is eligible stays so without it

@@ -15,7 +15,7 @@ use Rattle.satl_direct.specs.Device.{is_called}
 use Rattle.satl_laws.specs.ArrivalOrder.{is_done, is_good}
 use Rattle.satl_laws.specs.OnceEach.{answers_to, asks_by}
 use Rattle.satl_direct.specs.Valid.{AreOwn}
-use Rattle.satl_direct.proofs.Naming.{called_self}
+use Rattle.satl_direct.proofs.Naming.{called_self, each_of_none, own_more, own_none}
 use Rattle.satl_laws.proofs.Seen.{by_test}
 
 -- what holds of none holds of none of them
@@ -66,10 +66,10 @@ one b = if b then 1 else 0
 
 -- where each name counts once at most, each task has a name of its own
 pub own_counted : (tasks : List Entry) → ((nexus tag : ℕ) → how_many (is_called nexus tag) tasks < 2) → AreOwn tasks
-own_counted [] h = tt
+own_counted [] h = own_none
 own_counted (t ∷ ts) h =
     let self : one (is_called t.nexus (t.tag).0 t) ≡ 1 = ap one (called_self t) in
-    (none_counted (is_called t.nexus (t.tag).0) ts (omega (arith, self, h t.nexus (t.tag).0)), own_counted ts (λ nexus tag. less (one (is_called nexus tag t)) _ (h nexus tag)))
+    own_more t ts (each_of_none (is_called t.nexus (t.tag).0) ts (none_counted (is_called t.nexus (t.tag).0) ts (omega (arith, self, h t.nexus (t.tag).0)))) (own_counted ts (λ nexus tag. less (one (is_called nexus tag t)) _ (h nexus tag)))
   where
     less : (a b : ℕ) → a + b < 2 → b < 2
     less a b h = omega (arith, h)

@@ -18,6 +18,7 @@ use Rattle.satl_direct.specs.Run.{MayLose}
 use Rattle.satl_direct.specs.Run.MayLose.{keeps, keeps_and_loses}
 use Rattle.satl_direct.proofs.Quieting.{quiet_tasks}
 use Rattle.satl_direct.proofs.Steps.{turn_idle}
+use Rattle.satl_direct.proofs.Naming.{own_more, own_none}
 use Rattle.satl_laws.specs.OneReplyEach.{OneAnswered, OneReplyEach}
 
 -- ---- one task is left, or its answer was given
@@ -63,7 +64,7 @@ the_one t u (inr rest) = absurd rest
 one_gone : (s new : Device) (t : Entry) (reply : Reply) → s.tasks ≡ t ∷ [] → OneEnds s reply new → new.tasks ≡ []
 one_gone s new t reply one e =
     let is : e.task ≡ t = the_one t e.task (subst (IsIn e.task) one (may_end_in s e.task e.may)) in
-    (ends_leaves s new e.task reply e.ends).tasks ∙ (ap (without e.task) one ∙ (ap (λ u. without u (t ∷ [])) is ∙ without_is [] t [] (refl, tt)))
+    (ends_leaves s new e.task reply e.ends).tasks ∙ (ap (without e.task) one ∙ (ap (λ u. without u (t ∷ [])) is ∙ without_is [] t [] (own_more t [] tt own_none)))
 
 -- a turn of the only task
 turn_one : (s new : Device) (t : Entry) (replies : List Reply) → s.tasks ≡ t ∷ [] → Turn s replies new → OneAnswered [] replies new

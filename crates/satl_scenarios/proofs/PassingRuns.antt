@@ -10,6 +10,7 @@ use Rattle.satl_base.specs.Blocks.{lies_in, over}
 use Rattle.satl_direct.specs.Device.{Device}
 use Rattle.satl_direct.specs.Run.TurnsOf.{none}
 use Rattle.satl_direct.specs.Valid.{IsValid}
+use Rattle.satl_direct.proofs.Naming.{own_more, own_none}
 use Rattle.satl_laws.proofs.Seen.{by_test, within_from}
 use Rattle.satl_scenarios.specs.Orders.{IsOfPassing, four_waiting, passed_where_apart, reads_second, reads_two, writes_second, writes_third}
 use Rattle.satl_scenarios.specs.Scenario.{CanHappen}
@@ -53,7 +54,7 @@ four_valid = record {
   sound = all_sound 3;
   few = omega arith;
   blocks = omega arith;
-  own = (refl, (refl, (refl, (refl, tt))));
+  own = own_more _ _ (refl, (refl, (refl, tt))) (own_more _ _ (refl, (refl, tt)) (own_more _ _ (refl, tt) (own_more _ _ tt own_none)));
   come = (
     record { request = request 1 (cdb_10 0x28 0 2) []; pages = omega arith; expected = tt; at = never_written 3; same = refl; modes = record { cache = λ off. absurd cc; look = λ off. absurd cc }; became = refl },
     (

@@ -8,6 +8,7 @@ use Rattle.std.proofs.lemmas.Bool.{le-ltb, ne_eqb}
 use Rattle.satl_base.specs.Identify.{capacity}
 use Rattle.satl_base.specs.Cells.{AreSound, lasts}
 use Rattle.satl_direct.specs.Valid.{IsValid}
+use Rattle.satl_direct.proofs.Naming.{own_more, own_none}
 use Rattle.satl_cdb.specs.Table.{says}
 use Rattle.satl_scenarios.specs.Waiting.{two_waiting}
 use Rattle.satl_scenarios.specs.Devices.{aa, never_written, full_of, identify_data, identity, zeros}
@@ -36,7 +37,7 @@ blank_valid count some small = record {
   sound = all_sound count;
   few = omega arith;
   blocks = omega arith;
-  own = tt;
+  own = own_none;
   come = tt;
   modes = record { cache = λ off. absurd cc; look = λ off. absurd cc };
   nexuses = refl;
@@ -52,7 +53,7 @@ waiting_valid = record {
   sound = all_sound 3;
   few = omega arith;
   blocks = omega arith;
-  own = (refl, (refl, tt));
+  own = own_more _ _ (refl, tt) (own_more _ _ tt own_none);
   come = (
     record { request = request 1 (cdb_10 0x2A 0 1) (aa ∷ []); pages = omega arith; expected = tt; at = never_written 3; same = refl; modes = record { cache = λ off. absurd cc; look = λ off. absurd cc }; became = refl },
     (record { request = request 2 (cdb_10 0x28 1 1) []; pages = omega arith; expected = tt; at = never_written 3; same = refl; modes = record { cache = λ off. absurd cc; look = λ off. absurd cc }; became = refl }, tt),

@@ -6,6 +6,7 @@ use Rattle.satl_line.specs.Tasks.{Held, entries_of}
 use Rattle.satl_direct.specs.Senses.{link_lost}
 use Rattle.satl_direct.specs.Tasks.{task_of}
 use Rattle.satl_direct.specs.Valid.{AreOwn}
+use Rattle.satl_direct.proofs.Naming.{none_of_each, own_first}
 use Rattle.satl_core.specs.declared.turning.Ending.TheVariants as endings
 use Rattle.satl_core.specs.Flushed.{IsFlushed}
 use Rattle.satl_core.specs.Layer.{IsKept, IsTask, Layer, Tied, view}
@@ -181,7 +182,7 @@ returns-in-Ok-clause-flushed g c = λ flushed quiet.
     let i = c.self.inside in
     let first = is_first g (goal.at.returns-in-Ok-clause-flushed g c).After-entry_mut-task in
     let tied = subst (λ (l : Layer). Tied l (g.D.Drive.state c.args.drive.now)) (sym c.self.view_is) c.requires.tied in
-    let own = (subst (λ ts. AreOwn ts) (first_tasks i.queue.tasks c.remove.new.self.tasks c.entry_mut-task.result.now first) tied.agrees.valid.own).0 in
+    let own = none_of_each _ _ (own_first _ _ (subst AreOwn (first_tasks i.queue.tasks c.remove.new.self.tasks c.entry_mut-task.result.now first) tied.agrees.valid.own)) in
     let done = first_flush i.queue.tasks c.remove.new.self.tasks c.entry_mut-task.result.now (record c.entry_mut-task.result.now { body = c.run_task.new.task.body }) c.in-Ok.ending i.modes.d_sense c.args.replies.now c.push.new.self c.end_task.result first refl refl own c.requires.empty c.push.ensures (c.end_task.ensures.reply ∙ ap (λ t. ended_reply t c.in-Ok.ending c.self.inside.modes.d_sense) c.run_task.ensures.task)
     (subst (λ (l : Layer). IsFlushed l.tasks c.push.new.self) (sym c.self.view_is) flushed) in
     flush_done i.down i.started c.wanted_by-wanted.result (task_on c.entry_mut-task.result.now (g.D.Drive.state c.args.drive.now)) (task_on c.run_task.new.task (g.D.Drive.state c.run_task.new.drive)) c.in-Ok.ending done.flush done.good c.in-Ok.ensures.ends
