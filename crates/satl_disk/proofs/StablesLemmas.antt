@@ -1,14 +1,16 @@
 -- The slots of the sectors, and their stable blocks.
-use Rattle.std.proofs.Common.{◌≡◌, ◌≢◌, refl, sym, subst, ◌∙◌, ap, inl, inr, ◌⊎◌, ℕ, ◌+◌, ◌<◌, ◌≤◌, zero, suc, Bool, true, false, List, [], ◌∷◌, arith, length, map, Option, Some, None}
+use Rattle.std.proofs.Common.{◌≡◌, ◌≢◌, refl, sym, subst, ◌∙◌, ap, inl, inr, ◌⊎◌, ℕ, ◌+◌, ◌<◌, zero, suc, Bool, true, false, cond, List, [], ◌∷◌, arith, count_by, is_some, length, map, Option, Some, None}
 use Rattle.std.specs.Prelude.{◌^◌, IfSome, option_map, replicate, slice_index_or, slice_set, unwrap_or}
 use Rattle.std.specs.List.{AllZip}
 use Rattle.std.proofs.lemmas.List.{get_or-set_other, get_or-set_same, get_or_default, length-replicate, length-set, set-get_or}
+use Rattle.std.proofs.lemmas.List.Folds.{sum_by-replicate}
+use Rattle.std.proofs.lemmas.List.Sums.{count_by-le-length, sum_by-set}
 use Rattle.std.proofs.lemmas.Slice.Zip.{AllZip-long}
 use Rattle.satl_disk.specs.Sectors.{written_stable}
 use Rattle.satl_base.specs.declared.block.Block.{Block}
 use Rattle.satl_base.specs.Blocks.{zero_block}
 use Rattle.satl_base.specs.Lists.{paired}
-use Rattle.satl_disk.specs.Layout.{AreSlots, HasSlot, block_at, slot_at, stable_at, stable_of, taken}
+use Rattle.satl_disk.specs.Layout.{AreSlots, HasSlot, block_at, slot_at, stable_at, stable_of}
 
 -- a list of which each item was replaced by the same one
 pub all_same : {A : Type 0} (x : A) (xs : List A) → map (λ (y : A). x) xs ≡ replicate (length xs) x
@@ -33,21 +35,12 @@ paired-at f (a ∷ xs) (b ∷ ys) zero x y z h size = refl
 paired-at f (a ∷ xs) (b ∷ ys) (suc place) x y z h size = paired-at f xs ys place x y z (omega arith) (omega arith)
 
 -- a sector takes a slot: one more is taken
-taken_more : (slots : List (Option ℕ)) (place k : ℕ) → place < length slots → slot_at slots place ≡ None → taken (slice_set slots place (Some k)) ≡ suc (taken slots)
-taken_more [] place k h none = absurd (omega arith)
-taken_more (None ∷ slots) zero k h none = refl
-taken_more (Some j ∷ slots) zero k h none = cc
-taken_more (None ∷ slots) (suc place) k h none = taken_more slots place k (omega arith) none
-taken_more (Some j ∷ slots) (suc place) k h none = ap suc (taken_more slots place k (omega arith) none)
+taken_more : (slots : List (Option ℕ)) (place k : ℕ) → place < length slots → slot_at slots place ≡ None → count_by is_some (slice_set slots place (Some k)) ≡ suc (count_by is_some slots)
+taken_more slots place k h none =
+    omega (arith, sum_by-set (λ (s : Option ℕ). cond (is_some s) 1 0) slots place (Some k) None h, ap {B = ℕ} (λ (s : Option ℕ). cond (is_some s) 1 0) none)
 
-pub taken-le : (slots : List (Option ℕ)) → taken slots ≤ length slots
-taken-le [] = omega arith
-taken-le (None ∷ slots) = omega (arith, taken-le slots)
-taken-le (Some k ∷ slots) = omega (arith, taken-le slots)
-
-pub none_taken : (n : ℕ) → taken (replicate n None) ≡ 0
-none_taken zero = refl
-none_taken (suc n) = none_taken n
+none_taken : (n : ℕ) → count_by {X = Option ℕ} is_some (replicate n None) ≡ 0
+none_taken n = let none : Option ℕ = None in omega (arith, sum_by-replicate (λ (s : Option ℕ). cond (is_some s) 1 0) n none)
 
 no_slot : (n place k : ℕ) → slot_at (replicate n None) place ≡ Some k → ⊥
 no_slot zero place k h = cc
@@ -86,12 +79,12 @@ module _ (used : ℕ) (slots olds : List (Option ℕ)) (view : slots ≡ olds) (
     where
       by : (m : Option ℕ) → m ≡ slot_at slots place → IfSome m (λ slot. slot < length olds)
       by None e = tt
-      by (Some slot) e = omega (arith, ap length view, are.below place slot (sym e), are.count, taken-le slots)
+      by (Some slot) e = omega (arith, ap length view, are.below place slot (sym e), are.count, count_by-le-length is_some slots)
 
   -- a sector that has a slot
   module _ (slot : ℕ) (has : n ≡ Some slot) where
     pub slot_fits : slot < length olds
-    slot_fits = omega (arith, ap length view, are.below place slot (sym slot_is ∙ has), are.count, taken-le slots)
+    slot_fits = omega (arith, ap length view, are.below place slot (sym slot_is ∙ has), are.count, count_by-le-length is_some slots)
 
     pub slot_alone : (other : ℕ) → other ≢ place → slot_at olds other ≢ Some slot
     slot_alone other ne h = ne (are.apart place other slot (sym slot_is ∙ has) (ap (λ os. slot_at os other) view ∙ h))
@@ -102,7 +95,7 @@ module _ (used : ℕ) (slots olds : List (Option ℕ)) (view : slots ≡ olds) (
     none = sym slot_is ∙ is
 
     pub next_fits : used < length olds
-    next_fits = omega (arith, ap length view, taken_more slots place used here none, taken-le (slice_set slots place (Some used)), length-set slots place (Some used), are.count)
+    next_fits = omega (arith, ap length view, taken_more slots place used here none, count_by-le-length is_some (slice_set slots place (Some used)), length-set slots place (Some used), are.count)
 
     pub next_few : used + 1 < 2 ^ 32
     next_few = omega (arith, ap length view, next_fits, are.few)

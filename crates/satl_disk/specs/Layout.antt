@@ -1,6 +1,6 @@
 -- How the modelled drive keeps its sectors: their blocks, the stable blocks of the dirty ones, in slots, and their flaws
 -- (profile).
-use Rattle.std.specs.Prelude.{◌≡◌, ℕ, zero, suc, ◌^◌, ◌<◌, Bool, true, false, List, [], ◌∷◌, Option, Some, None, option_map, length, slice_index_or}
+use Rattle.std.specs.Prelude.{◌≡◌, ℕ, zero, suc, ◌^◌, ◌<◌, Bool, true, false, List, [], ◌∷◌, Option, Some, None, count_by, is_some, option_map, length, slice_index_or}
 use Rattle.satl_base.specs.declared.block.Block.{Block}
 use Rattle.satl_base.specs.declared.bench.Which.{Which}
 use Rattle.satl_base.specs.declared.bench.Which.TheVariants.{Read, Write}
@@ -30,16 +30,10 @@ zipped f (x ∷ xs) (y ∷ ys) (z ∷ zs) = f x y z ∷ zipped f xs ys zs
 abbrev pub slot_at : List (Option ℕ) → ℕ → Option ℕ
 slot_at slots place = slice_index_or slots place None
 
--- how many sectors have a slot
-abbrev pub taken : List (Option ℕ) → ℕ
-taken [] = 0
-taken (None ∷ slots) = taken slots
-taken (Some k ∷ slots) = suc (taken slots)
-
 -- the slots of fewer than 2^32 sectors, taken in order from 0: no two sectors have one slot
 pub record AreSlots (used : ℕ) (slots : List (Option ℕ)) : Type 0 where
   pub few : length slots < 2 ^ 32
-  pub count : taken slots ≡ used
+  pub count : count_by is_some slots ≡ used
   pub below : (place k : ℕ) → slot_at slots place ≡ Some k → k < used
   pub apart : (place other k : ℕ) → slot_at slots place ≡ Some k → slot_at slots other ≡ Some k → other ≡ place
 

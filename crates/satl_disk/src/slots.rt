@@ -1,6 +1,6 @@
 // The slots that the sectors of the modelled drive have in the store of old blocks.
-ghost use Rattle.std.specs.Prelude.{◌≡◌, ℕ, ◌<◌, ◌≢◌, None, Option, Some, IfOk, IfSome, length, replicate, slice_index_or, slice_set, vec_len};
-ghost use Rattle.satl_disk.specs.Layout.{slot_at, taken};
+ghost use Rattle.std.specs.Prelude.{◌≡◌, ℕ, ◌<◌, ◌≢◌, None, Option, Some, IfOk, IfSome, count_by, is_some, length, replicate, slice_index_or, slice_set, vec_len};
+ghost use Rattle.satl_disk.specs.Layout.{slot_at};
 
 use satl_base::NoMemory;
 use std::alloc::Global;
@@ -48,7 +48,7 @@ impl Slots {
 
     /// How many slots are taken.
     pub fn used(&self) -> u32
-        ensures { result ≡ taken self.now }
+        ensures { result ≡ count_by is_some self.now }
     {
         self.used
     }
