@@ -45,8 +45,8 @@ pub record Keeps (i : Identity) (m : Modes) (change : ModeChange) : Type 0 where
 
 module _ (i : Identity) (m : Modes) (list : List Block) where
   at_k : (page : ModePage) (place at n : ℕ) → agrees i m list page place at ≡ true → ((k : ℕ) → k < n → agrees i m list page place ((at + 1) + k) ≡ true) → (k : ℕ) → k < suc n → agrees i m list page place (at + k) ≡ true
-  at_k page place at n is rest zero lt = let e : at + 0 ≡ at = omega arith in rw e is
-  at_k page place at n is rest (suc k) lt = let e : at + suc k ≡ (at + 1) + k = omega arith in rw e (rest k (omega (arith, lt)))
+  at_k page place at n is rest zero lt = let e : at ≡ at + 0 = omega arith in subst (λ x. agrees i m list page place x ≡ true) e is
+  at_k page place at n is rest (suc k) lt = let e : (at + 1) + k ≡ at + suc k = omega arith in subst (λ x. agrees i m list page place x ≡ true) e (rest k (omega (arith, lt)))
 
   -- where no byte differs, each agrees
   agreed : (n : ℕ) (page : ModePage) (place at : ℕ) → difference i m list page place at n ≡ None → (k : ℕ) → k < n → agrees i m list page place (at + k) ≡ true
