@@ -7,6 +7,7 @@ ghost use Rattle.satl_identify.specs.declared.identity.Identity.{Identity as Dri
 ghost use Rattle.satl_mode.specs.ModePages.{page_coded, size_of};
 ghost use Rattle.satl_mode.specs.Changes.{applied, change_from, change_in, descriptor_length, first_page, header_size, list_bit, no_change, page_at, whole_page, with_page, AreModesOf, IsChangeOf};
 
+use crate::bits::{D_SENSE_BIT, D_SENSE_BYTE, DRA_BIT, DRA_BYTE, PS, WCE_BIT, WCE_BYTE};
 use crate::page::{ModePage, page_coded};
 use satl_base::{ModeChange, Modes, Pages};
 use satl_cdb::Illegal;
@@ -25,6 +26,7 @@ pub fn header_size(ten: bool) -> u16
     if ten { 8 } else { 4 }
 }
 
+/// BLOCK DESCRIPTOR LENGTH (SPC-4 7.5).
 pub fn descriptor_length(list: &Pages, ten: bool) -> u16
     requires { header_size ten ≤ 512 * length list.now }
     ensures { result ≡ descriptor_length ten list.now }
@@ -80,7 +82,7 @@ pub fn page_at(list: &Pages, list_length: u16, place: usize) -> Result<ModePage,
         return Err(Illegal::list_length_error());
     }
     whole_page(
-        page_coded(byte_of(list, place) & 0x7F),
+        page_coded(byte_of(list, place) & !PS),
         list,
         list_length,
         place,
@@ -104,12 +106,12 @@ fn with_page(page: ModePage, list: &Pages, place: usize, change: ModeChange) -> 
     match page {
         ModePage::ErrorRecovery | ModePage::InformationalExceptions => change,
         ModePage::Caching => ModeChange {
-            wce: Some(flag(list, place + 2, 2)),
-            dra: Some(flag(list, place + 12, 5)),
+            wce: Some(flag(list, place + WCE_BYTE, WCE_BIT)),
+            dra: Some(flag(list, place + DRA_BYTE, DRA_BIT)),
             d_sense: change.d_sense,
         },
         ModePage::Control => ModeChange {
-            d_sense: Some(flag(list, place + 2, 2)),
+            d_sense: Some(flag(list, place + D_SENSE_BYTE, D_SENSE_BIT)),
             ..change
         },
     }

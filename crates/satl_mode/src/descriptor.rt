@@ -9,8 +9,11 @@ use satl_base::append;
 /// Which block descriptor stands behind the header (SBC-3, mode parameter block descriptors).
 #[derive(Clone, Copy, Debug, PartialEq, Eq)]
 pub enum Descriptor {
+    /// None.
     Absent,
+    /// The short one, of 8 bytes.
     Short,
+    /// The long one, of 16 bytes, which goes with LONGLBA.
     Long,
 }
 
@@ -18,11 +21,7 @@ pub enum Descriptor {
 pub fn short_capacity(capacity: u64) -> u32
     ensures { result ≡ short_capacity capacity }
 {
-    if capacity > 0xFFFF_FFFF {
-        0xFFFF_FFFF
-    } else {
-        capacity as u32
-    }
+    u32::try_from(capacity).unwrap_or(u32::MAX)
 }
 
 impl Descriptor {
@@ -59,12 +58,12 @@ impl Descriptor {
         match self {
             Descriptor::Absent => {}
             Descriptor::Short => {
-                append(&mut text, &short_capacity(capacity).to_be_bytes());
-                append(&mut text, &[0, 0, 2, 0]);
+                append(&mut text, &short_capacity(capacity).to_be_bytes()); // NUMBER OF LOGICAL BLOCKS
+                append(&mut text, &[0, 0, 2, 0]); // LOGICAL BLOCK LENGTH
             }
             Descriptor::Long => {
-                append(&mut text, &capacity.to_be_bytes());
-                append(&mut text, &[0, 0, 0, 0, 0, 0, 2, 0]);
+                append(&mut text, &capacity.to_be_bytes()); // NUMBER OF LOGICAL BLOCKS
+                append(&mut text, &[0, 0, 0, 0, 0, 0, 2, 0]); // LOGICAL BLOCK LENGTH
             }
         }
         text

@@ -2,9 +2,11 @@
 //! leave open, and the refusals, are the profile's).
 #![tactic(auto)]
 
+mod bits;
 mod change;
 mod descriptor;
 pub mod laws;
+mod mode_page;
 mod page;
 mod select;
 mod sense;

@@ -3,15 +3,21 @@
 ghost use Rattle.std.specs.Prelude.{◌≡◌, ◌≤◌, ◌+◌};
 ghost use Rattle.satl_mode.specs.ModePages.{changeable, defaults, page_byte, page_coded, row_of, shown_by, size_of};
 
+use crate::bits::{AWRE, AWRE_BYTE, D_SENSE, D_SENSE_BYTE, DRA, DRA_BYTE, WCE, WCE_BYTE};
+use crate::mode_page;
 use satl_base::Modes;
 use satl_identify::Identity;
 
 /// A mode page of the profile (SPC-4 7.5, SBC-3).
 #[derive(Clone, Copy, Debug, PartialEq, Eq)]
 pub enum ModePage {
+    /// Read-Write Error Recovery (SBC-3): AWRE.
     ErrorRecovery,
+    /// Caching (SBC-3): WCE and DRA.
     Caching,
+    /// Control (SPC-4): D_SENSE.
     Control,
+    /// Informational Exceptions Control (SPC-4).
     InformationalExceptions,
 }
 
@@ -45,16 +51,22 @@ pub fn defaults(identity: &Identity) -> Modes
     }
 }
 
+/// PC: the current values (SPC-4, MODE SENSE commands).
+pub const CURRENT_VALUES: u8 = 0;
+
+/// PC: the bits that can change.
+pub const CHANGEABLE_VALUES: u8 = 1;
+
 /// What pages show by PC: 0 current values, 1 the bits that can change, else the default values.
 pub fn shown_by(control: u8, identity: &Identity, modes: &Modes) -> Shown
     ensures { result ≡ shown_by control identity.now modes.now }
 {
     match control {
-        0 => Shown {
+        CURRENT_VALUES => Shown {
             fixed: true,
             settings: *modes,
         },
-        1 => Shown {
+        CHANGEABLE_VALUES => Shown {
             fixed: false,
             settings: changeable(identity),
         },
@@ -70,10 +82,10 @@ pub fn page_coded(code: u8) -> Option<ModePage>
     ensures { result ≡ page_coded code }
 {
     match code {
-        0x01 => Some(ModePage::ErrorRecovery),
-        0x08 => Some(ModePage::Caching),
-        0x0A => Some(ModePage::Control),
-        0x1C => Some(ModePage::InformationalExceptions),
+        mode_page::ERROR_RECOVERY => Some(ModePage::ErrorRecovery),
+        mode_page::CACHING => Some(ModePage::Caching),
+        mode_page::CONTROL => Some(ModePage::Control),
+        mode_page::EXCEPTIONS => Some(ModePage::InformationalExceptions),
         _ => None,
     }
 }
@@ -84,10 +96,10 @@ impl ModePage {
         ensures { result ≡ (row_of self).code }
     {
         match self {
-            ModePage::ErrorRecovery => 0x01,
-            ModePage::Caching => 0x08,
-            ModePage::Control => 0x0A,
-            ModePage::InformationalExceptions => 0x1C,
+            ModePage::ErrorRecovery => mode_page::ERROR_RECOVERY,
+            ModePage::Caching => mode_page::CACHING,
+            ModePage::Control => mode_page::CONTROL,
+            ModePage::InformationalExceptions => mode_page::EXCEPTIONS,
         }
     }
 
@@ -118,10 +130,10 @@ impl ModePage {
         match (self, place) {
             (_, 0) => self.code(),
             (_, 1) => self.length(),
-            (ModePage::ErrorRecovery, 2) => if shown.fixed { 0x80 } else { 0 },
-            (ModePage::Caching, 2) => if shown.settings.wce { 0x04 } else { 0 },
-            (ModePage::Caching, 12) => if shown.settings.dra { 0x20 } else { 0 },
-            (ModePage::Control, 2) => if shown.settings.d_sense { 0x04 } else { 0 },
+            (ModePage::ErrorRecovery, AWRE_BYTE) => if shown.fixed { AWRE } else { 0 },
+            (ModePage::Caching, WCE_BYTE) => if shown.settings.wce { WCE } else { 0 },
+            (ModePage::Caching, DRA_BYTE) => if shown.settings.dra { DRA } else { 0 },
+            (ModePage::Control, D_SENSE_BYTE) => if shown.settings.d_sense { D_SENSE } else { 0 },
             _ => 0,
         }
     }

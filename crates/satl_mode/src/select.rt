@@ -7,9 +7,10 @@ ghost use Rattle.satl_mode.specs.Descriptors.{block_fields, descriptor_size};
 ghost use Rattle.satl_mode.specs.Changes.{AreModesOf, IsChangeOf, KeepsFixed, applied, change_in, descriptor_length, first_page, header_size};
 ghost use Rattle.satl_mode.specs.SelectList.{agrees, descriptor_length_place, descriptor_rules, descriptor_sized, difference, field_rule, first_broken, front_rules, has_long_lba, pages_rules, select_says, unless_fault};
 
+use crate::bits::{LONGLBA, LONGLBA_BYTE};
 use crate::change::{apply, descriptor_length, first_page, header_size, page_at, select_change};
 use crate::descriptor::{Descriptor, short_capacity};
-use crate::page::{ModePage, shown_by};
+use crate::page::{CHANGEABLE_VALUES, CURRENT_VALUES, ModePage, shown_by};
 use satl_base::{Modes, Pages};
 use satl_cdb::Illegal;
 use satl_cdb::list::{byte_of, u24_at, u32_at, u64_at};
@@ -19,7 +20,7 @@ fn has_long_lba(list: &Pages, ten: bool) -> bool
     requires { header_size ten ≤ 512 * length list.now }
     ensures { result ≡ has_long_lba ten list.now }
 {
-    ten && byte_of(list, 4) & 1 == 1
+    ten && byte_of(list, LONGLBA_BYTE) & LONGLBA == LONGLBA
 }
 
 /// The descriptor of a length.
@@ -134,8 +135,8 @@ fn agrees(
     requires room { place + at < 512 * length list.now }
     ensures { result ≡ agrees identity.now modes.now list.now page place at }
 {
-    let kept = !page.byte(&shown_by(1, identity, modes), at);
-    let current = page.byte(&shown_by(0, identity, modes), at);
+    let kept = !page.byte(&shown_by(CHANGEABLE_VALUES, identity, modes), at);
+    let current = page.byte(&shown_by(CURRENT_VALUES, identity, modes), at);
     byte_of(list, place + at) & kept == current & kept
 }
 

@@ -6,14 +6,13 @@ ghost use Rattle.satl_mode.specs.Descriptors.{descriptor_bytes};
 ghost use Rattle.satl_mode.specs.ModePages.{page_bytes, pages_bytes, size_of};
 ghost use Rattle.satl_mode.specs.ModeData.{header, long_lba_bit, mode_data, pages_asked, with_header};
 
+use crate::bits::{DPOFUA, LONGLBA};
 use crate::descriptor::Descriptor;
+use crate::mode_page::ALL_PAGES;
 use crate::page::{ModePage, Shown, page_coded, shown_by};
 use arrayvec::ArrayVec;
 use satl_base::{Modes, append};
 use satl_identify::Identity;
-
-/// DPOFUA: DPO and FUA are allowed (SBC-3, mode parameter header).
-const DPOFUA: u8 = 0x10;
 
 fn append_page(text: &mut ArrayVec<u8, 64>, page: ModePage, shown: &Shown)
     requires { array_vec_len text.old + size_of page ≤ 64 }
@@ -29,7 +28,7 @@ fn pages_of(code: u8, shown: &Shown) -> ArrayVec<u8, 64>
     ensures { result.items ≡ pages_bytes (pages_asked code) shown.now }
 {
     let mut text = ArrayVec::new();
-    if code == 0x3F {
+    if code == ALL_PAGES {
         append_page(&mut text, ModePage::ErrorRecovery, shown);
         append_page(&mut text, ModePage::Caching, shown);
         append_page(&mut text, ModePage::Control, shown);
@@ -45,7 +44,7 @@ fn long_lba_bit(descriptor: Descriptor) -> u8
 {
     match descriptor {
         Descriptor::Absent | Descriptor::Short => 0,
-        Descriptor::Long => 1,
+        Descriptor::Long => LONGLBA,
     }
 }
 
@@ -56,6 +55,8 @@ fn append_header(text: &mut ArrayVec<u8, 128>, ten: bool, descriptor: Descriptor
     ensures len { array_vec_len text.new ≤ 8 }
 {
     let size = descriptor.size();
+    // MODE DATA LENGTH, MEDIUM TYPE, DEVICE-SPECIFIC PARAMETER, LONGLBA in a byte of its own and a reserved byte in the form of
+    // ten bytes, BLOCK DESCRIPTOR LENGTH.
     if ten {
         append(
             text,

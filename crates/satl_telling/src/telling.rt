@@ -19,18 +19,25 @@ use satl_vpd::{capacity10, capacity16, inquiry, luns, vpd};
 /// What the device says of itself in data-in.
 #[derive(Clone, Copy, Debug, PartialEq, Eq)]
 pub enum Data {
-    /// The standard INQUIRY data, or a page of vital product data.
+    /// The standard INQUIRY data, or the page of vital product data of a PAGE CODE.
     Inquiry(Option<u8>),
     /// The standard INQUIRY data of a LUN at which there is no logical unit.
     NoUnit,
     /// Mode pages, as a MODE SENSE asks for them.
     Modes(ModeSense),
+    /// The capacity, as READ CAPACITY (10) tells it.
     Capacity10,
+    /// The capacity, as READ CAPACITY (16) tells it.
     Capacity16,
     /// The list of LUNs by SELECT REPORT.
     Luns(u8),
-    /// Sense data, in the descriptor form or in the fixed form.
-    Sense { descriptor: bool, sense: Sense },
+    /// Sense data, as a REQUEST SENSE asks for them.
+    Sense {
+        /// DESC: in the descriptor form, and not in the fixed form.
+        descriptor: bool,
+        /// What they say.
+        sense: Sense,
+    },
 }
 
 /// Data-in before they are cut, at most 572 bytes.

@@ -70,8 +70,3 @@ posted-either a b some =
 pub posted-again : (a : Attention) (some : List Attention) → posted a (posted a some) ≡ posted a some
 posted-again a some =
     posted-alike a a (posted a some) some (λ x. rw (posted-members a x some) (or_again (is_same x a) (is_posted x some)))
-
--- the first condition that is posted is the only one
-pub power_on_alone : (conditions given : List Attention) → given ≡ [] → conditions ≡ posted PowerOn given → conditions ≡ PowerOn ∷ []
-unfolding posted
-power_on_alone conditions given none is = is ∙ ap (posted PowerOn) none

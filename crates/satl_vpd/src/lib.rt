@@ -3,12 +3,12 @@
 #![tactic(auto)]
 
 mod capacity;
-mod codes;
 pub mod laws;
 mod lun_list;
 mod standard;
 mod text;
 mod vital;
+mod vital_page;
 mod words;
 
 pub use capacity::{capacity10, capacity16};

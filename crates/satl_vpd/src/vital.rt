@@ -5,11 +5,8 @@ ghost use Rattle.std.specs.Option.{option_map};
 ghost use Rattle.satl_base.specs.Lists.{is_in};
 ghost use Rattle.satl_vpd.specs.Vital.{ata_information, block_characteristics, block_limits, has_world_wide_name, identification, page_codes, provisioning, serial_number, vpd_page, vpd_page_bytes};
 
-use crate::codes::{
-    ATA_INFORMATION_PAGE, BLOCK_LIMITS_PAGE, CHARACTERISTICS_PAGE, IDENTIFICATION_PAGE,
-    PROVISIONING_PAGE, SERIAL_NUMBER_PAGE, SUPPORTED_VPD_PAGES,
-};
 use crate::text::characters;
+use crate::vital_page;
 use crate::words::{
     FORM_FACTOR, FORM_FACTOR_BITS, HAS_NAME, MODEL, MODEL_END, NAME, NAME_END, ROTATION_RATE,
     SERIAL, SERIAL_END, SETTINGS_87,
@@ -66,17 +63,17 @@ fn begun(code: u8, rest: u16) -> VitalPage
 fn supported_pages() -> VitalPage
     ensures { result.items ≡ 0x00 ∷ 0x00 ∷ (bytes_high_first 2 (length page_codes) ++ page_codes) }
 {
-    let mut page = begun(SUPPORTED_VPD_PAGES, 7);
+    let mut page = begun(vital_page::SUPPORTED_PAGES, 7);
     append(
         &mut page,
         &[
-            SUPPORTED_VPD_PAGES,
-            SERIAL_NUMBER_PAGE,
-            IDENTIFICATION_PAGE,
-            ATA_INFORMATION_PAGE,
-            BLOCK_LIMITS_PAGE,
-            CHARACTERISTICS_PAGE,
-            PROVISIONING_PAGE,
+            vital_page::SUPPORTED_PAGES,
+            vital_page::SERIAL_NUMBER,
+            vital_page::IDENTIFICATION,
+            vital_page::ATA_INFORMATION,
+            vital_page::BLOCK_LIMITS,
+            vital_page::CHARACTERISTICS,
+            vital_page::PROVISIONING,
         ],
     );
     page
@@ -86,7 +83,7 @@ fn supported_pages() -> VitalPage
 fn serial_number(identity: &Identity) -> VitalPage
     ensures { result.items ≡ vpd_page_bytes serial_number identity.now }
 {
-    let mut page = begun(SERIAL_NUMBER_PAGE, 0x14);
+    let mut page = begun(vital_page::SERIAL_NUMBER, 0x14);
     append(&mut page, &characters(&identity.bytes, SERIAL, SERIAL_END)); // PRODUCT SERIAL NUMBER
     page
 }
@@ -112,7 +109,7 @@ fn identification_length(identity: &Identity) -> u16
 fn identification(identity: &Identity) -> VitalPage
     ensures { result.items ≡ vpd_page_bytes identification identity.now }
 {
-    let mut page = begun(IDENTIFICATION_PAGE, identification_length(identity));
+    let mut page = begun(vital_page::IDENTIFICATION, identification_length(identity));
     append(&mut page, &[ASCII, T10_VENDOR, 0x00, 0x44]); // CODE SET, DESIGNATOR TYPE, DESIGNATOR LENGTH
     append(&mut page, b"ATA     "); // T10 VENDOR IDENTIFICATION
     append(&mut page, &characters(&identity.bytes, MODEL, MODEL_END)); // VENDOR SPECIFIC IDENTIFIER: model
@@ -128,7 +125,7 @@ fn identification(identity: &Identity) -> VitalPage
 fn ata_information(identity: &Identity) -> VitalPage
     ensures { result.items ≡ vpd_page_bytes ata_information identity.now }
 {
-    let mut page = begun(ATA_INFORMATION_PAGE, 0x0238);
+    let mut page = begun(vital_page::ATA_INFORMATION, 0x0238);
     append(&mut page, &[0; 4]); // reserved
     append(&mut page, b"SATL    "); // SAT VENDOR IDENTIFICATION
     append(&mut page, b"SATL REPLAY     "); // SAT PRODUCT IDENTIFICATION
@@ -151,7 +148,7 @@ fn block_limits(identity: &Identity) -> VitalPage
         BigEndian::write_u32(&mut bytes[24..], MOST_RANGES as u32); // MAXIMUM UNMAP BLOCK DESCRIPTOR COUNT
     }
     BigEndian::write_u64(&mut bytes[36..], u64::from(MOST_COVERED)); // MAXIMUM WRITE SAME LENGTH
-    let mut page = begun(BLOCK_LIMITS_PAGE, 0x3C);
+    let mut page = begun(vital_page::BLOCK_LIMITS, 0x3C);
     append(&mut page, &bytes[4..]);
     page
 }
@@ -165,7 +162,7 @@ fn block_characteristics(identity: &Identity) -> VitalPage
     let mut bytes = [0; 64];
     bytes[4..6].copy_from_slice(&rotation_rate.to_be_bytes()); // MEDIUM ROTATION RATE
     bytes[7] = form_factor as u8; // NOMINAL FORM FACTOR
-    let mut page = begun(CHARACTERISTICS_PAGE, 0x3C);
+    let mut page = begun(vital_page::CHARACTERISTICS, 0x3C);
     append(&mut page, &bytes[4..]);
     page
 }
@@ -174,7 +171,7 @@ fn block_characteristics(identity: &Identity) -> VitalPage
 fn provisioning(identity: &Identity) -> VitalPage
     ensures { result.items ≡ vpd_page_bytes provisioning identity.now }
 {
-    let mut page = begun(PROVISIONING_PAGE, 0x04);
+    let mut page = begun(vital_page::PROVISIONING, 0x04);
     let flags = if identity.trim {
         LBPU | LBPWS | LBPWS10 | LBPRZ
     } else {
@@ -192,13 +189,13 @@ pub fn vpd(identity: &Identity, page: u8) -> Option<VitalPage>
     ensures variant { IsSome result ↔ IsTrue (is_in page page_codes) }
 {
     match page {
-        SUPPORTED_VPD_PAGES => Some(supported_pages()),
-        SERIAL_NUMBER_PAGE => Some(serial_number(identity)),
-        IDENTIFICATION_PAGE => Some(identification(identity)),
-        ATA_INFORMATION_PAGE => Some(ata_information(identity)),
-        BLOCK_LIMITS_PAGE => Some(block_limits(identity)),
-        CHARACTERISTICS_PAGE => Some(block_characteristics(identity)),
-        PROVISIONING_PAGE => Some(provisioning(identity)),
+        vital_page::SUPPORTED_PAGES => Some(supported_pages()),
+        vital_page::SERIAL_NUMBER => Some(serial_number(identity)),
+        vital_page::IDENTIFICATION => Some(identification(identity)),
+        vital_page::ATA_INFORMATION => Some(ata_information(identity)),
+        vital_page::BLOCK_LIMITS => Some(block_limits(identity)),
+        vital_page::CHARACTERISTICS => Some(block_characteristics(identity)),
+        vital_page::PROVISIONING => Some(provisioning(identity)),
         _ => None,
     }
 }
