@@ -15,11 +15,11 @@ use crate::finishing::turn;
 use crate::powering::power;
 use crate::sectors::Sectors;
 use satl_base::{BenchEvent, NoMemory};
-use satl_frame::Frame;
+use satl_frame::{Frame, HEAD_SIZE, OUT_END_KIND};
 use satl_identify::Identity;
 
 /// The frame that ends an output.
-const END: [u8; 5] = [0x85, 0, 0, 0, 0];
+const END: [u8; HEAD_SIZE] = [OUT_END_KIND, 0, 0, 0, 0];
 
 /// END comes: whether each task that waits can end with the answers that come next in the output, each sector goes along with
 /// it, and then the output ends (SAM-5 8; profile).

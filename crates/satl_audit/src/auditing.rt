@@ -12,16 +12,14 @@ use crate::sectors::Sectors;
 use crate::verdict::Verdict;
 use satl_base::{INPUT_LIMIT, NoMemory};
 use satl_cover::{AuditFault, NoPages, Slice, cover};
-use satl_frame::{Frame, FrameFault, FrameReader, LONGEST_EVENT};
+use satl_frame::{
+    Frame, FrameFault, FrameReader, HEAD_SIZE, LONGEST_EVENT, MAGIC_SIZE, OUT_MAGIC, REQUEST_SIZE,
+};
 use satl_identify::Identity;
 use std::alloc::Global;
 
-/// What an output begins with.
-const MAGIC: [u8; 8] = *b"SATLRSP1";
-
-/// Where the data-out of a request stands, in bytes behind the first of its frame: five of the frame's head, and thirty of
-/// fields.
-const DATA_OUT: usize = 35;
+/// Where the data-out of a request stands, in bytes behind the first of its frame.
+const DATA_OUT: usize = HEAD_SIZE + REQUEST_SIZE;
 
 /// Goes through the frames of an input all of which are covered, and says whether the output, which stands behind its magic, is
 /// that of a run.
@@ -42,7 +40,7 @@ fn follow(
     let mut lender = NoPages;
     let mut room = [0; LONGEST_EVENT];
     loop {
-        let at = (input.len() - source.left()).max(8);
+        let at = (input.len() - source.left()).max(MAGIC_SIZE);
         let frame = match reader.next(&mut source, &mut lender, &mut room) {
             Ok(frame) => frame,
             Err(FrameFault::Bad { .. }) => unreachable!(),
@@ -85,7 +83,7 @@ pub fn audit(
         return Ok(Verdict::NotCovered { offset });
     }
     let mut answers = Cursor::new(output);
-    if !answers.pass(&MAGIC) {
+    if !answers.pass(&OUT_MAGIC) {
         return Ok(Verdict::No);
     }
     Ok(follow(alloc, identity, input, answers.rest())?)

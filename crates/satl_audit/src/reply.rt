@@ -8,6 +8,7 @@ ghost use Rattle.satl_audit.specs.Finishing.{head_bytes};
 
 use crate::cursor::Cursor;
 use satl_base::{Nexus, Request, Scsi, SenseBytes, Tag};
+use satl_frame::{REPLY_KIND, REPLY_SIZE};
 use satl_sense::{Sense, sense_bytes};
 
 /// The name of a task (SAM-5 4.7, I_T_L_Q nexus).
@@ -24,10 +25,10 @@ pub fn head(name: Name, status: Scsi, sense: u8, len: u64) -> [u8; 12]
     requires { len < 2 ^ 63 }
     ensures { result ≡ head_bytes name.nexus name.tag.0 status sense len }
 {
-    let [_, _, _, _, a, b, c, d] = (7 + u64::from(sense) + len).to_be_bytes();
+    let [_, _, _, _, a, b, c, d] = (REPLY_SIZE as u64 + u64::from(sense) + len).to_be_bytes();
     let [e, f, g, h] = name.tag.0.to_be_bytes();
     [
-        0x81,
+        REPLY_KIND,
         a,
         b,
         c,

@@ -9,10 +9,12 @@ use satl_base::NoMemory;
 use std::alloc::Global;
 use std::marker::Model;
 
-/// What is done to all sectors at once: all is written back, or the power is lost (SBC-3 4.15).
+/// What is done to all sectors at once (SBC-3 4.15).
 #[derive(Clone, Copy, Debug, PartialEq, Eq)]
 pub enum Sweep {
+    /// All is written back.
     Settled,
+    /// The power is lost.
     Powered,
 }
 

@@ -5,7 +5,7 @@ ghost use Rattle.std.specs.Option.{option_map};
 ghost use Rattle.satl_line.specs.Eligible.{eligible_at};
 ghost use Rattle.satl_audit.specs.Waiting.{entries_in, has_name, has_no_room};
 
-use satl_base::{Nexus, NoMemory, Tag};
+use satl_base::{MOST_TASKS, Nexus, NoMemory, Tag};
 use satl_line::{Entry, TaskBox, TaskSet};
 use std::alloc::Global;
 use std::marker::Model;
@@ -15,7 +15,7 @@ use std::marker::Model;
 pub struct Waiting {
     tasks: TaskSet,
     // the place of the data-out of the task in each slot
-    places: [usize; 64],
+    places: [usize; MOST_TASKS],
     // where a task comes from
     desk: TaskBox,
 }
@@ -38,7 +38,7 @@ impl Waiting {
         let desk = TaskBox::new(alloc)?;
         Ok(Waiting {
             tasks,
-            places: [0; 64],
+            places: [0; MOST_TASKS],
             desk,
         })
     }

@@ -4,7 +4,7 @@ ghost use Rattle.satl_cover.specs.Reading.{Covers};
 use crate::fault::AuditFault;
 use crate::frames::read_to_end;
 use crate::slice::Slice;
-use satl_frame::Reason;
+use satl_frame::{Reason, VERSION_PLACE, VERSION_TWO};
 use std::alloc::Global;
 
 /// Whether an input can be audited, for a drive that trims or not: None where it is of version 1 and each of its frames is
@@ -23,7 +23,7 @@ pub fn cover(alloc: Global, trim: bool, input: &[u8]) -> Result<Option<u64>, Aud
             offset: (input.len() - left) as u64,
         });
     }
-    if input[7] == b'2' {
+    if input[VERSION_PLACE] == VERSION_TWO {
         return Ok(Some(0));
     }
     Ok(noted.uncovered)

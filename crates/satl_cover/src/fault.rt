@@ -6,8 +6,13 @@ use satl_frame::Reason;
 /// Why nothing is said of an input (profile).
 #[derive(Clone, Copy, Debug, PartialEq, Eq)]
 pub enum AuditFault {
-    /// The bytes at the offset are refused. The offset is counted from the first byte of the input.
-    BadInput { reason: Reason, offset: u64 },
+    /// The input is refused.
+    BadInput {
+        /// Why it is.
+        reason: Reason,
+        /// Where the first byte of what is refused stands in the input.
+        offset: u64,
+    },
     /// Memory ran out.
     NoMemory,
 }

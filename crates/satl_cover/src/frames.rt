@@ -7,7 +7,7 @@ use crate::nothing::NoPages;
 use crate::noting::Noted;
 use crate::slice::Slice;
 use satl_base::INPUT_LIMIT;
-use satl_frame::{Frame, FrameFault, FrameReader, LONGEST_EVENT};
+use satl_frame::{Frame, FrameFault, FrameReader, LONGEST_EVENT, MAGIC_SIZE};
 use std::alloc::Global;
 
 /// Reads frames up to END, and takes note of each.
@@ -21,7 +21,7 @@ pub fn read_to_end(alloc: Global, trim: bool, source: &mut Slice<'_>) -> Result<
     let mut room = [0; LONGEST_EVENT];
     let len = source.left();
     loop {
-        let at = (len - source.left()).max(8) as u64;
+        let at = (len - source.left()).max(MAGIC_SIZE) as u64;
         let frame = match reader.next(source, &mut lender, &mut room) {
             Ok(frame) => frame,
             Err(FrameFault::Bad { reason, offset }) => {

@@ -1,9 +1,8 @@
 // What the auditor knows.
 ghost use Rattle.std.specs.Prelude.{◌≡◌};
-ghost use Rattle.satl_direct.specs.Arrival.{is_unit_0};
 ghost use Rattle.satl_cover.specs.Known.{is_known, is_known_frame};
 
-use satl_base::BenchEvent;
+use satl_base::{BenchEvent, are_zeros};
 use satl_cdb::{Command, Illegal, read_cdb};
 use satl_frame::Frame;
 
@@ -23,20 +22,13 @@ fn is_known(command: Result<Command, Illegal>) -> bool
     }
 }
 
-/// Whether a LUN is that of logical unit 0 (SAM-5 4.6).
-fn is_unit_0(lun: &[u8; 8]) -> bool
-    ensures { result ≡ is_unit_0 lun.now }
-{
-    lun.iter().all(|byte| *byte == 0)
-}
-
 /// Whether the auditor knows a frame, on a drive that trims or not (profile).
 pub fn is_known_frame(trim: bool, frame: &Frame<'_>) -> bool
     ensures { result ≡ is_known_frame trim frame.now }
 {
     match frame {
         Frame::Request(request) => {
-            is_unit_0(&request.lun) && is_known(read_cdb(&request.cdb, trim))
+            are_zeros(&request.lun) && is_known(read_cdb(&request.cdb, trim))
         }
         Frame::Manage(_) => false,
         Frame::Bench(event) => matches!(event, BenchEvent::Order { .. } | BenchEvent::Power),

@@ -17,11 +17,13 @@ ghost use Rattle.satl_pages.specs.Counts.{number_of};
 use crate::telling::UnitTeller;
 use arrayvec::ArrayVec;
 use byteorder::{BigEndian, ByteOrder};
+use satl_asks::refusal_sense;
 use satl_base::{Pages, Reply, Request, Scsi, append};
+use satl_cdb::Illegal;
 use satl_frame::WriteFault;
 use satl_io::Sink;
 use satl_pages::Pool;
-use satl_sense::{Extra, Sense, sense_bytes};
+use satl_sense::sense_bytes;
 use satl_step::Teller;
 use satl_telling::padded;
 use std::mem;
@@ -84,15 +86,7 @@ fn luns_told(units: u8, request: &Request, mut pages: Pages) -> Reply
 fn refused(request: &Request) -> Reply
     ensures { result ≡ reply_to request.now CheckCondition (fixed_form (refusal_sense (invalid_field 2))) }
 {
-    let sense = Sense {
-        key: 0x5,
-        asc: 0x24,
-        ascq: 0x00,
-        extra: Extra::Pointer {
-            in_cdb: true,
-            byte: 2,
-        },
-    };
+    let sense = refusal_sense(Illegal::invalid_field(2));
     Reply {
         nexus: request.nexus,
         tag: request.tag,

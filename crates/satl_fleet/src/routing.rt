@@ -1,9 +1,8 @@
 // Which unit of a target a frame goes to.
 ghost use Rattle.std.specs.Prelude.{◌≡◌, ◌==◌};
 ghost use Rattle.satl_fleet.specs.Routing.{is_for_all, is_report, names_unit, route_to};
-ghost use Rattle.satl_base.specs.Blocks.{is_zeros};
 
-use satl_base::{Manage, Request};
+use satl_base::{Manage, Request, are_zeros};
 use satl_cdb::REPORT_LUNS;
 use satl_unit::NEXUS_RESET;
 
@@ -19,12 +18,6 @@ pub struct Route {
     pub lun: [u8; 8],
 }
 
-fn are_zero(bytes: &[u8]) -> bool
-    ensures { result ≡ is_zeros bytes.now }
-{
-    bytes.iter().all(|byte| *byte == 0)
-}
-
 /// Whether a LUN of one level names one of so many units (SAM-5 4.6).
 fn names_unit(units: u8, lun: &[u8; 8]) -> bool
     ensures { result ≡ names_unit units lun.now }
@@ -35,7 +28,7 @@ fn names_unit(units: u8, lun: &[u8; 8]) -> bool
     if lun[1] >= units {
         return false;
     }
-    are_zero(&lun[2..])
+    are_zeros(&lun[2..])
 }
 
 /// Where a frame to a LUN goes, of so many units: to unit 0 at the same LUN where no unit has it (profile).

@@ -14,7 +14,7 @@ ghost use Rattle.satl_fleet.specs.Stopping.{HasFleetCause, RanTo, RanWhole, spot
 
 use crate::frames_loop::serve_frames;
 use crate::opening::open_units;
-use satl_base::{INPUT_LIMIT, Steps};
+use satl_base::{INPUT_LIMIT, MOST_MOVED, Steps};
 use satl_core::{OpenFault, Satl};
 use satl_drive::Bench;
 use satl_frame::{FrameReader, OutFrame, write_frame};
@@ -25,7 +25,7 @@ use std::alloc::Global;
 use std::sync::ledger::Ledger;
 
 // The pages of the longest data-out of a request.
-const POOL_PAGES: u32 = 4096;
+const POOL_PAGES: u32 = MOST_MOVED;
 
 /// Serves an input of frames of version 1 on one to four drives, the logical units 0 to 3 of one target: opens the layer on
 /// each, and carries out one frame after the other up to END, which ends it. A command or a function for LUN n goes to unit n,

@@ -7,9 +7,13 @@ use satl_frame::Frame;
 /// A frame that may go to each unit of a target: all but a request. It has no page (profile).
 #[derive(Drop)]
 pub enum Shared<'a, 'b> {
+    /// A task management function arrives.
     Manage(Manage),
+    /// So many turns of the device.
     Turn(u16),
+    /// Something happens to the drive.
     Bench(&'a BenchEvent<'b>),
+    /// The end of the input.
     End,
 }
 

@@ -10,6 +10,9 @@ use satl_io::Sink;
 use satl_step::Teller;
 use satl_unit::NEXUS_RESET;
 
+/// Kind of an output's frame: the unit whose answers follow (profile).
+const UNIT_KIND: u8 = 0x84;
+
 /// Tells the answers of a unit to one frame: the unit is named before the first (profile).
 #[derive(Clone, Copy, Debug, PartialEq, Eq)]
 pub struct UnitTeller {
@@ -25,7 +28,7 @@ fn write_unit<K: Sink>(unit: u8, sink: &mut K) -> Result<(), WriteFault>
     ensures part { OnErr result (WrotePart (K.written sink.old) (K.written sink.new) (unit_bytes unit)) }
     ensures cause { HasCause (K.faults sink.old) (K.faults sink.new) result }
 {
-    match push(sink, &[0x84, 0, 0, 0, 1, unit]) {
+    match push(sink, &[UNIT_KIND, 0, 0, 0, 1, unit]) {
         Ok(()) => Ok(()),
         Err(_) => Err(WriteFault),
     }

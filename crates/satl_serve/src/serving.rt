@@ -26,12 +26,21 @@ use thiserror::Error;
 /// Why serving stopped before the end of the input (profile).
 #[derive(Clone, Copy, Debug, PartialEq, Eq, Error)]
 pub enum ServeFault {
+    /// The layer was not opened, for this cause.
     #[error("the layer was not opened")]
     Open(OpenFault),
+    /// The input is refused.
     #[error("the input is refused")]
-    BadInput { reason: Reason, offset: u64 },
+    BadInput {
+        /// Why it is.
+        reason: Reason,
+        /// Where the first byte of what is refused stands in the input.
+        offset: u64,
+    },
+    /// A read of the source failed.
     #[error("a read failed")]
     Read,
+    /// A write to the sink failed.
     #[error("a write failed")]
     Write,
 }

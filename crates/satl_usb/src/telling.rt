@@ -3,7 +3,7 @@ ghost use Rattle.std.specs.Prelude.{◌≡◌, OnErr, OnOk};
 ghost use Rattle.satl_usb.specs.Wire.{kept_of};
 
 use crate::wire::tell_reply;
-use satl_base::{Manage, Reply, Response, Scsi, SenseBytes};
+use satl_base::{Manage, Reply, Response, Scsi, SenseBytes, append};
 use satl_bot::Cbw;
 use satl_frame::WriteFault;
 use satl_io::{Failed, Sink};
@@ -25,10 +25,8 @@ fn kept_of(reply: &Reply) -> Option<SenseBytes>
     match reply.status {
         Scsi::CheckCondition => {
             let mut sense = SenseBytes::new();
-            match sense.try_extend_from_slice(reply.sense.as_slice()) {
-                Ok(()) => Some(sense),
-                Err(_) => unreachable!(),
-            }
+            append(&mut sense, reply.sense.as_slice());
+            Some(sense)
         }
         Scsi::Good | Scsi::TaskSetFull => None,
     }
