@@ -1,5 +1,5 @@
 // The slots that the sectors of the modelled drive have in the store of old blocks.
-ghost use Rattle.std.specs.Prelude.{◌≡◌, ℕ, ◌<◌, ◌≢◌, None, Option, Some, IfOk, IfSome, count_by, is_some, length, replicate, slice_index_or, slice_set, vec_len};
+ghost use Rattle.std.specs.Prelude.{◌≡◌, ℕ, ◌<◌, ◌≢◌, None, Option, Some, IfOk, IfSome, count_by, is_some, length, replicate, slice_set, vec_len};
 ghost use Rattle.satl_disk.specs.Layout.{slot_at};
 
 use satl_base::NoMemory;

@@ -1,8 +1,6 @@
 // What a MODE SELECT parameter list sets.
 
-ghost use Rattle.std.specs.Prelude.{◌≡◌, ◌==◌, ◌≤◌, ◌<◌, ◌+◌, ◌*◌, ◌/◌, ◌%◌, ◌^◌, IfOk, length};
-ghost use Rattle.satl_base.specs.Fields.{bits_of};
-ghost use Rattle.satl_base.specs.Blocks.{byte_at};
+ghost use Rattle.std.specs.Prelude.{◌≡◌, ◌==◌, ◌≤◌, ◌<◌, ◌+◌, ◌*◌, ◌^◌, IfOk, length};
 ghost use Rattle.satl_identify.specs.declared.identity.Identity.{Identity as Drive};
 ghost use Rattle.satl_mode.specs.ModePages.{page_coded, size_of};
 ghost use Rattle.satl_mode.specs.Changes.{applied, change_from, change_in, descriptor_length, first_page, header_size, list_bit, no_change, page_at, whole_page, with_page, AreModesOf, IsChangeOf};

@@ -1,7 +1,6 @@
 // Judging a MODE SELECT parameter list.
 
 ghost use Rattle.std.specs.Prelude.{◌≡◌, ◌≤◌, ◌<◌, ◌+◌, ◌*◌, ◌^◌, ◌==◌, ◌&&◌, not, IfOk, length, map};
-ghost use Rattle.satl_cdb.specs.Unmap.{number_at};
 ghost use Rattle.satl_mode.specs.ModePages.{row_of, size_of};
 ghost use Rattle.satl_mode.specs.Descriptors.{block_fields, descriptor_size};
 ghost use Rattle.satl_mode.specs.Changes.{AreModesOf, IsChangeOf, KeepsFixed, applied, change_in, descriptor_length, first_page, header_size};

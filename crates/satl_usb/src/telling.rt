@@ -1,5 +1,5 @@
 // Who tells the answers to one item.
-ghost use Rattle.std.specs.Prelude.{◌≡◌, OnErr, OnOk};
+ghost use Rattle.std.specs.Prelude.{◌≡◌};
 ghost use Rattle.satl_usb.specs.Wire.{kept_of};
 
 use crate::wire::tell_reply;
