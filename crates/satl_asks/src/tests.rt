@@ -3,9 +3,19 @@
 use super::*;
 use satl_base::{Attr, Range};
 use satl_cdb::{Command, Form, Illegal};
-use satl_sense::Extra;
+use satl_sense::{Extra, Sense};
 use satl_unit::Attention;
 use std::test::*;
+
+/// Sense data of a key and codes alone.
+fn plain(key: u8, asc: u8, ascq: u8) -> Sense {
+    Sense {
+        key,
+        asc,
+        ascq,
+        extra: Extra::None,
+    }
+}
 
 fn read(lba: u64, count: u32) -> Command {
     Command::Read {

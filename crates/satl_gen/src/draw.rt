@@ -68,8 +68,8 @@ impl Draw {
         }
     }
 
-    /// The command: READ(10) or WRITE(10) of 1 to 32 blocks below address 8,032, SYNCHRONIZE CACHE(10) of all, or TEST UNIT READY
-    /// (profile).
+    /// The command: READ(10) or WRITE(10) of 1 to 32 blocks below address 8,032, SYNCHRONIZE CACHE(10) of all, or TEST UNIT
+    /// READY (profile).
     pub fn command(self) -> Command
         ensures { result ≡ drawn_command self }
     {
