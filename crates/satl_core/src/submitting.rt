@@ -10,7 +10,6 @@ ghost use Rattle.satl_mode.specs.SelectList.{select_fault};
 ghost use Rattle.satl_direct.specs.Tasks.{asks, data_out_kept, fault_of_block, held_blocks, needed, task_without_pages};
 ghost use Rattle.satl_core.specs.Layer.{entry_pages, reply_pages};
 ghost use Rattle.satl_base.specs.Limits.{IsExpectable};
-ghost use Rattle.satl_base.specs.Blocks.{is_zeros};
 ghost use Rattle.satl_asks.specs.Commands.{CanPass, HasList, IsList};
 ghost use Rattle.satl_core.specs.Submitting.{HasEntries, HasLengths, HasListUnlessEmpty, HoldsList, answer_to, attention_of, code_answer, command_answer, data_answer, is_idle, other_answer, readiness, reply_at_once, sense_data, tell_attention, trims, unless_idle, unmap_list_fault};
 ghost use Rattle.satl_direct.specs.Device.{attentions_left};
@@ -21,7 +20,9 @@ use satl_asks::{
     length_fault, link_lost, listed_ranges, needed, no_sense, not_ready, out_of_range, put_ranges,
     range_of, refusal_sense, short_data, unknown_unit,
 };
-use satl_base::{Block, Modes, NEXUSES, Pages, Replies, Reply, Request, Scsi, SenseBytes};
+use satl_base::{
+    Block, Modes, NEXUSES, Pages, Replies, Reply, Request, Scsi, SenseBytes, are_zeros,
+};
 use satl_cdb::{Command, INQUIRY, Illegal, REQUEST_SENSE, desc, evpd, read_cdb, read_unmap_list};
 use satl_identify::Identity;
 use satl_line::{Entry, Kind};
@@ -176,17 +177,11 @@ fn data_fault(satl: &Satl, request: &Request, command: &Command) -> Option<Illeg
 fn block_fault(block: &Block) -> Option<Illegal>
     ensures { result ≡ fault_of_block block.now }
 {
-    if is_zero(block) {
+    if are_zeros(&block.bytes) {
         None
     } else {
         Some(Illegal::invalid_field(1))
     }
-}
-
-fn is_zero(block: &Block) -> bool
-    ensures { result ≡ is_zeros block.now.bytes }
-{
-    block.bytes.iter().all(|byte| *byte == 0)
 }
 
 /// The refusal of the list of an UNMAP, if it is not empty (SBC-3 5.28).

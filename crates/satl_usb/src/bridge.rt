@@ -16,6 +16,7 @@ use crate::answering::answer_item;
 use crate::fault::UsbFault;
 use crate::items::{ItemFault, next_item, sent_length};
 use satl_base::{Replies, Steps};
+use satl_bot::CBW_SIZE;
 use satl_core::Satl;
 use satl_drive::Bench;
 use satl_io::{Sink, Source};
@@ -104,7 +105,7 @@ fn serve_items<S: Source, K: Sink, D: Bench, L: Ledger>(
             Ok(None) => return Ok(()),
             Err(fault) => return Err(stop_at(offset, fault)),
         };
-        let end = offset + 31 + u64::from(sent_length(&item.command));
+        let end = offset + CBW_SIZE as u64 + u64::from(sent_length(&item.command));
         match answer_item(satl, item, kept, sink, drive, &mut replies, steps) {
             Ok(after) => kept = after,
             Err(_) => return Err(UsbFault::Write),

@@ -7,7 +7,7 @@ ghost use Rattle.satl_usb.specs.Items.{sent_length};
 ghost use Rattle.satl_usb.specs.Reading.{HeadMissed, HeadRead, ItemCauses, ItemMissed, ItemRead, pages_read};
 
 use satl_base::{INPUT_LIMIT, Lender, Pages};
-use satl_bot::{Cbw, read_cbw};
+use satl_bot::{CBW_SIZE, Cbw, read_cbw};
 use satl_frame::{PullError, fill, pull_data};
 use satl_io::{Failed, Source};
 
@@ -53,10 +53,10 @@ fn read_head<S: Source>(source: &mut S) -> Result<Option<Cbw>, ItemFault>
     ensures missed { IfErr result (HeadMissed (S.left source.old) (S.left source.new)) }
     ensures causes { ItemCauses (S.faults source.old) (S.faults source.new) result }
 {
-    let mut head = [0; 31];
+    let mut head = [0; CBW_SIZE];
     match fill(source, &mut head)? {
         0 => Ok(None),
-        31 => match read_cbw(&head) {
+        CBW_SIZE => match read_cbw(&head) {
             Some(command) => Ok(Some(command)),
             None => Err(ItemFault::Bad),
         },
@@ -83,7 +83,7 @@ pub fn next_item<S: Source, P: Lender>(
         return Ok(None);
     };
     let length = sent_length(&command);
-    if INPUT_LIMIT - offset < 31 + u64::from(length) {
+    if INPUT_LIMIT - offset < CBW_SIZE as u64 + u64::from(length) {
         return Err(ItemFault::Bad);
     }
     match pull_data(source, lender, length) {
