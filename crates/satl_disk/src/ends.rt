@@ -4,7 +4,7 @@ ghost use Rattle.satl_regs.specs.Effects.{bad_end, flawed_end, good_end, is_dma}
 ghost use Rattle.satl_disk.specs.Running.{stopped_end};
 
 use satl_drive::{Registers, Taskfile};
-use satl_regs::{BAD_STATUS, GOOD_STATUS, How, ICRC_ABRT, UNC};
+use satl_regs::{BAD_STATUS, GOOD_STATUS, How, ICRC_ABRT, UNC, low_24, top_4_of_28};
 
 /// What stops a command whose range lies within the capacity (ACS-3, error outputs).
 #[derive(Clone, Copy, Debug, PartialEq, Eq)]
@@ -15,6 +15,7 @@ pub enum Stop {
     Garbled,
 }
 
+/// Whether data go by DMA (ACS-3, the names of the commands).
 pub fn is_dma(how: How) -> bool
     ensures { result ≡ is_dma how }
 {
@@ -37,6 +38,7 @@ pub fn good_end(regs: &Registers, count: u16, lba: u64) -> Taskfile
     }
 }
 
+/// A bad end, with ERROR and what LBA tells.
 pub fn bad_end(regs: &Registers, error: u8, lba: u64) -> Taskfile
     ensures { result ≡ bad_end regs.now error lba }
 {
@@ -53,8 +55,7 @@ pub fn bad_end(regs: &Registers, error: u8, lba: u64) -> Taskfile
 fn with_top(device: u8, at: u64) -> u8
     ensures { result ≡ device / 2 ^ 4 * 2 ^ 4 + at / 2 ^ 24 % 2 ^ 4 }
 {
-    let top = (at >> 24 & 0x0F) as u8;
-    (device >> 4 << 4) + top
+    (device >> 4 << 4) + top_4_of_28(at)
 }
 
 /// A bad end at a flaw: of a 28-bit address the top four bits stand in DEVICE.
@@ -67,12 +68,13 @@ fn flawed_end(regs: &Registers, ext: bool, at: u64) -> Taskfile
     Taskfile {
         error: UNC,
         count: 0,
-        lba: at & 0x00FF_FFFF,
+        lba: low_24(at),
         device: with_top(regs.device, at),
         status: BAD_STATUS,
     }
 }
 
+/// The end of a command that was stopped (ACS-3, error outputs).
 pub fn stopped_end(stop: Stop, regs: &Registers, ext: bool) -> Taskfile
     ensures { result ≡ stopped_end stop regs.now ext }
 {

@@ -4,14 +4,18 @@ ghost use Rattle.satl_base.specs.Identify.{has_cache, has_look, trim_blocks};
 ghost use Rattle.satl_identify.specs.Data.{with_settings};
 ghost use Rattle.satl_disk.specs.Data.{fixed_words, drive_data, integrity_kept, retold, set_word, set_words};
 
-use satl_identify::{INTEGRITY, SETTINGS, balance, bit_at, settings_of, word_at};
+use satl_identify::words::{
+    CACHE_BIT, LOOK_BIT, SUPPORTED, TRIM_BLOCKS, bit_at, has_integrity, word_at,
+};
+use satl_identify::{INTEGRITY, SETTINGS, balance, settings_of};
 
 /// A word of IDENTIFY DEVICE data: its place from 0 to 255, and its value.
 type Word = (u8, u16);
 
 /// The words that are not 0 and do not depend on the number of sectors.
 const FIXED_WORDS: [Word; 54] = [
-    (0, 0x0040),
+    (0, 0x0040), // general configuration: an ATA device
+    // Serial number, two characters a word: SATL0000000000000001.
     (10, 0x5341),
     (11, 0x544C),
     (12, 0x3030),
@@ -22,10 +26,12 @@ const FIXED_WORDS: [Word; 54] = [
     (17, 0x3030),
     (18, 0x3030),
     (19, 0x3031),
+    // Firmware revision: FW010203.
     (23, 0x4657),
     (24, 0x3031),
     (25, 0x3032),
     (26, 0x3033),
+    // Model number: MODEL NCQ DISK, and spaces behind it.
     (27, 0x4D4F),
     (28, 0x4445),
     (29, 0x4C20),
@@ -46,25 +52,26 @@ const FIXED_WORDS: [Word; 54] = [
     (44, 0x2020),
     (45, 0x2020),
     (46, 0x2020),
-    (49, 0x0300),
-    (69, 0x4020),
-    (75, 0x001F),
-    (76, 0x0100),
-    (77, 0x0040),
-    (82, 0x0061),
-    (83, 0x7400),
-    (84, 0x4120),
-    (85, 0x0061),
-    (86, 0x3400),
-    (87, 0x4120),
-    (105, 0x0008),
-    (106, 0x6003),
+    (49, 0x0300), // capabilities: LBA, DMA
+    (69, 0x4020), // additional features: trimmed sectors read as zeros, each time
+    (75, 0x001F), // queue depth: 32
+    (76, 0x0100), // Serial ATA capabilities: NCQ
+    (77, 0x0040), // Serial ATA additional capabilities: SEND FPDMA QUEUED
+    (82, 0x0061), // supported: SMART, write cache, look-ahead
+    (83, 0x7400), // supported: 48-bit addresses, FLUSH CACHE, FLUSH CACHE EXT
+    (84, 0x4120), // supported: READ LOG EXT, world wide name
+    (85, 0x0061), // enabled: SMART, write cache, look-ahead
+    (86, 0x3400), // enabled: 48-bit addresses, FLUSH CACHE, FLUSH CACHE EXT
+    (87, 0x4120), // enabled: READ LOG EXT, world wide name
+    (105, 0x0008), // the most blocks of one trim: 8
+    (106, 0x6003), // sector size: 2^3 logical sectors in a physical one
+    // World wide name: 5000000000000001h.
     (108, 0x5000),
     (111, 0x0001),
-    (168, 0x0003),
-    (169, 0x0001),
-    (217, 0x0001),
-    (255, 0x00A5),
+    (168, 0x0003), // form factor: 2.5 inches
+    (169, 0x0001), // DATA SET MANAGEMENT: TRIM
+    (217, 0x0001), // rotation rate: none, solid state
+    (255, 0x00A5), // integrity word: the checksum is there
 ];
 
 /// Writes a word.
@@ -115,7 +122,7 @@ pub fn retell(data_bytes: &mut [u8; 512], cache_on: bool, look_on: bool)
     let before = data_bytes[SETTINGS];
     let after = settings_of(before, cache_on, look_on);
     data_bytes[SETTINGS] = after;
-    if data_bytes[510] == 0xA5 {
+    if has_integrity(data_bytes) {
         let sum = data_bytes[INTEGRITY].wrapping_add(before);
         data_bytes[INTEGRITY] = sum.wrapping_sub(after);
     }
@@ -155,19 +162,19 @@ pub fn identify_bytes(sectors: u32) -> [u8; 512]
 pub fn has_cache(data_bytes: &[u8; 512]) -> bool
     ensures { result ≡ has_cache data_bytes.now }
 {
-    bit_at(data_bytes, 82, 5)
+    bit_at(data_bytes, SUPPORTED, CACHE_BIT)
 }
 
 /// Whether there is read look-ahead.
 pub fn has_look(data_bytes: &[u8; 512]) -> bool
     ensures { result ≡ has_look data_bytes.now }
 {
-    bit_at(data_bytes, 82, 6)
+    bit_at(data_bytes, SUPPORTED, LOOK_BIT)
 }
 
 /// The most blocks of one trim.
 pub fn trim_blocks(data_bytes: &[u8; 512]) -> u16
     ensures { result ≡ trim_blocks data_bytes.now }
 {
-    word_at(data_bytes, 105)
+    word_at(data_bytes, TRIM_BLOCKS)
 }

@@ -4,50 +4,58 @@ ghost use Rattle.satl_base.specs.Identify.{exponent, has_bad_sum, has_capacity, 
 ghost use Rattle.satl_identify.specs.Refusals.{IsIdentity, identity_in, identity_of};
 
 use crate::identity::{Identity, IdentityFault};
-use crate::words::{bit_at, number_at, word_at};
+use crate::words::{
+    ADDITIONAL, CACHE_BIT, CAPABILITIES, CAPACITY, CONFIGURATION, DATA_SET_MANAGEMENT, ENABLED,
+    LOOK_BIT, QUEUE_DEPTH, SATA_ADDITIONAL, SATA_CAPABILITIES, SECTOR_SIZE, SUPPORTED,
+    SUPPORTED_NEXT, bit_at, has_integrity, is_valid, number_at, word_at,
+};
 use satl_base::checksum_of;
 
 // The integrity word is there, and the bytes do not sum to 0.
 fn has_bad_sum(bytes: &[u8; 512]) -> bool
     ensures { result ≡ has_bad_sum bytes.now }
 {
-    word_at(bytes, 255) & 0xFF == 0xA5 && checksum_of(bytes) != 0
+    has_integrity(bytes) && checksum_of(bytes) != 0
 }
 
 fn has_lba48(bytes: &[u8; 512]) -> bool
     ensures { result ≡ has_lba48 bytes.now }
 {
-    bit_at(bytes, 49, 8)
-        && bit_at(bytes, 49, 9)
-        && word_at(bytes, 83) >> 14 == 1
-        && bit_at(bytes, 83, 10)
-        && bit_at(bytes, 83, 13)
+    let dma = bit_at(bytes, CAPABILITIES, 8);
+    let lba = bit_at(bytes, CAPABILITIES, 9);
+    let lba48 = bit_at(bytes, SUPPORTED_NEXT, 10);
+    let flush_cache_ext = bit_at(bytes, SUPPORTED_NEXT, 13);
+    dma && lba && is_valid(bytes, SUPPORTED_NEXT) && lba48 && flush_cache_ext
 }
 
 fn has_queue(bytes: &[u8; 512]) -> bool
     ensures { result ≡ has_queue bytes.now }
 {
-    word_at(bytes, 76) != 0xFFFF && bit_at(bytes, 76, 8) && word_at(bytes, 75) & 0x1F == 31
+    let ncq = bit_at(bytes, SATA_CAPABILITIES, 8);
+    let most_tag = word_at(bytes, QUEUE_DEPTH) & 0x1F;
+    word_at(bytes, SATA_CAPABILITIES) != 0xFFFF && ncq && most_tag == 31
 }
 
 fn has_capacity(bytes: &[u8; 512]) -> bool
     ensures { result ≡ has_capacity bytes.now }
 {
-    let capacity = number_at(bytes, 100);
+    let capacity = number_at(bytes, CAPACITY);
     capacity != 0 && capacity <= 0xFFFF_FFFF_FFFF
 }
 
 fn is_other_block(bytes: &[u8; 512]) -> bool
     ensures { result ≡ is_other_block bytes.now }
 {
-    word_at(bytes, 106) >> 14 == 1 && bit_at(bytes, 106, 12)
+    let is_longer = bit_at(bytes, SECTOR_SIZE, 12);
+    is_valid(bytes, SECTOR_SIZE) && is_longer
 }
 
 fn exponent_of(bytes: &[u8; 512]) -> u8
     ensures { result ≡ exponent bytes.now }
 {
-    if word_at(bytes, 106) >> 14 == 1 && bit_at(bytes, 106, 13) {
-        (word_at(bytes, 106) & 0x0F) as u8
+    let has_exponent = bit_at(bytes, SECTOR_SIZE, 13);
+    if is_valid(bytes, SECTOR_SIZE) && has_exponent {
+        (word_at(bytes, SECTOR_SIZE) & 0x0F) as u8
     } else {
         0
     }
@@ -57,13 +65,17 @@ fn exponent_of(bytes: &[u8; 512]) -> u8
 pub fn has_trim(bytes: &[u8; 512]) -> bool
     ensures { result ≡ has_trim bytes.now }
 {
-    bit_at(bytes, 169, 0) && bit_at(bytes, 69, 14) && bit_at(bytes, 69, 5)
+    let trim = bit_at(bytes, DATA_SET_MANAGEMENT, 0);
+    let deterministic = bit_at(bytes, ADDITIONAL, 14);
+    let zeros = bit_at(bytes, ADDITIONAL, 5);
+    trim && deterministic && zeros
 }
 
 fn has_queued_trim(bytes: &[u8; 512]) -> bool
     ensures { result ≡ has_queued_trim bytes.now }
 {
-    has_trim(bytes) && bit_at(bytes, 77, 6)
+    let send_queued = bit_at(bytes, SATA_ADDITIONAL, 6);
+    has_trim(bytes) && send_queued
 }
 
 fn identity_from(bytes: &[u8; 512]) -> Identity
@@ -71,14 +83,14 @@ fn identity_from(bytes: &[u8; 512]) -> Identity
 {
     Identity {
         bytes: *bytes,
-        capacity: number_at(bytes, 100),
+        capacity: number_at(bytes, CAPACITY),
         exponent: exponent_of(bytes),
         trim: has_trim(bytes),
         queued_trim: has_queued_trim(bytes),
-        cache: bit_at(bytes, 82, 5),
-        look: bit_at(bytes, 82, 6),
-        cache_on: bit_at(bytes, 85, 5),
-        look_on: bit_at(bytes, 85, 6),
+        cache: bit_at(bytes, SUPPORTED, CACHE_BIT),
+        look: bit_at(bytes, SUPPORTED, LOOK_BIT),
+        cache_on: bit_at(bytes, ENABLED, CACHE_BIT),
+        look_on: bit_at(bytes, ENABLED, LOOK_BIT),
     }
 }
 
@@ -86,7 +98,8 @@ fn identity_from(bytes: &[u8; 512]) -> Identity
 fn judge(bytes: &[u8; 512]) -> Result<Identity, IdentityFault>
     ensures { result ≡ identity_of bytes.now }
 {
-    if bit_at(bytes, 0, 15) {
+    let is_not_ata = bit_at(bytes, CONFIGURATION, 15);
+    if is_not_ata {
         return Err(IdentityFault::NotAta);
     }
     if has_bad_sum(bytes) {

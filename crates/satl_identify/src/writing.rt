@@ -5,20 +5,21 @@ ghost use Rattle.satl_identify.specs.Data.{identity_data, settings_byte, with_in
 ghost use Rattle.satl_identify.specs.Refusals.{IsIdentity, identity_of};
 
 use crate::identity::Identity;
+use crate::words::{CACHE_BIT, ENABLED, INTEGRITY_WORD, LOOK_BIT, has_integrity};
 use satl_base::checksum_of;
 
 /// The place of the low byte of word 85, which has the settings (ACS-3, IDENTIFY DEVICE).
-pub const SETTINGS: usize = 2 * 85;
+pub const SETTINGS: usize = 2 * ENABLED;
 
 /// The place of the high byte of word 255, the checksum (ACS-3, IDENTIFY DEVICE).
-pub const INTEGRITY: usize = 2 * 255 + 1;
+pub const INTEGRITY: usize = 2 * INTEGRITY_WORD + 1;
 
 /// The low byte of word 85 with its settings, bits 5 and 6, as given, and all else as it was (ACS-3, word 85).
 pub fn settings_of(byte: u8, cache_on: bool, look_on: bool) -> u8
     ensures { result ≡ settings_byte byte cache_on look_on }
 {
-    let look = if look_on { 0x40 } else { 0 };
-    let cache = if cache_on { 0x20 } else { 0 };
+    let look = if look_on { 1 << LOOK_BIT } else { 0 };
+    let cache = if cache_on { 1 << CACHE_BIT } else { 0 };
     (byte >> 7 << 7) + look + cache + (byte & 0x1F)
 }
 
@@ -27,7 +28,7 @@ pub fn settings_of(byte: u8, cache_on: bool, look_on: bool) -> u8
 pub fn balance(bytes: &mut [u8; 512])
     ensures { bytes.new ≡ with_integrity bytes.old }
 {
-    if bytes[510] == 0xA5 {
+    if has_integrity(bytes) {
         bytes[INTEGRITY] = 0;
         bytes[INTEGRITY] = checksum_of(bytes).wrapping_neg();
     }
