@@ -27,7 +27,7 @@ ghost use Rattle.satl_core.specs.Flushed.{IsFlushed, IsSettled};
 ghost use Rattle.satl_core.specs.Turning.{off_calls, turn_calls};
 ghost use Rattle.satl_flight.specs.Settled.{Deepens};
 
-use crate::benching::{act_on, powered_on};
+use crate::benching::act_on;
 use crate::leaving::{Scope, drop_tasks};
 use crate::managing::{decide, post};
 use crate::submitting::{
@@ -47,7 +47,7 @@ use satl_identify::{Identity, IdentityFault, read_identity};
 use satl_line::TaskBox;
 use satl_mode::defaults;
 use satl_pages::Pool;
-use satl_unit::Attentions;
+use satl_unit::{Attentions, no_attentions, powered_on};
 use std::alloc::Global;
 use std::marker::Model;
 use std::sync::ledger::Ledger;
@@ -515,16 +515,4 @@ fn first_modes(identity: &Identity) -> Modes
         dra: !identity.look_on,
         d_sense: false,
     }
-}
-
-/// No unit attention for any nexus.
-fn no_attentions() -> [Attentions; NEXUSES]
-    ensures { result ≡ Rattle.std.specs.Prelude.replicate 4 [] }
-{
-    [
-        Attentions::none(),
-        Attentions::none(),
-        Attentions::none(),
-        Attentions::none(),
-    ]
 }

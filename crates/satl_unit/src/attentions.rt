@@ -4,6 +4,7 @@ ghost use Rattle.satl_unit.specs.declared.attention.Attention.TheVariants as att
 ghost use Rattle.satl_unit.specs.Conditions.{IsInReportOrder, posted};
 
 use crate::attention::Attention;
+use satl_base::NEXUSES;
 use std::marker::Model;
 
 /// The unit attention conditions that are posted for one nexus (SAM-5 5.14): a set of at most five. Clauses see the list of
@@ -88,7 +89,7 @@ impl Attentions {
 }
 
 /// The conditions of four nexuses, none of which is to be told anything (profile).
-pub fn no_attentions() -> [Attentions; 4]
+pub fn no_attentions() -> [Attentions; NEXUSES]
     ensures { result ≡ replicate 4 [] }
 {
     [
@@ -110,7 +111,7 @@ fn power_on() -> Attentions
 }
 
 /// The conditions of four nexuses, each of which is to be told that the power was on, and nothing else (SAM-5 6.3).
-pub fn powered_on() -> [Attentions; 4]
+pub fn powered_on() -> [Attentions; NEXUSES]
     ensures { result ≡ replicate 4 (attentions.PowerOn ∷ []) }
 {
     [power_on(), power_on(), power_on(), power_on()]
