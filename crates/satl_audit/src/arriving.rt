@@ -15,7 +15,7 @@ use satl_asks::{attention_sense, is_untold};
 use satl_base::{NoMemory, Request, Scsi};
 use satl_cdb::Command;
 use satl_identify::Identity;
-use satl_unit::{Attention, Attentions};
+use satl_unit::{Attention, Attentions, no_attentions};
 use std::alloc::Global;
 
 /// The device of a record but for its sectors, and how far the output is compared.
@@ -39,12 +39,7 @@ impl<'a> Steps<'a> {
         let waiting = Waiting::new(alloc)?;
         Ok(Steps {
             waiting,
-            attentions: [
-                Attentions::none(),
-                Attentions::none(),
-                Attentions::none(),
-                Attentions::none(),
-            ],
+            attentions: no_attentions(),
             output: Cursor::new(output),
         })
     }

@@ -1,5 +1,5 @@
 // The power is lost.
-ghost use Rattle.std.specs.Prelude.{◌≡◌, ◌≤◌, ◌<◌, ◌+◌, ◌^◌, OnOk, List, ℕ, [], ◌∷◌, length, map, replicate};
+ghost use Rattle.std.specs.Prelude.{◌≡◌, ◌≤◌, ◌<◌, ◌+◌, ◌^◌, OnOk, List, ℕ, [], ◌∷◌, length, map};
 ghost use Rattle.satl_base.specs.declared.bench.BenchEvent.TheVariants as events;
 ghost use Rattle.satl_frame.specs.declared.frames.Frame.TheVariants as frames;
 ghost use Rattle.satl_identify.specs.declared.identity.Identity.{Identity};
@@ -17,7 +17,7 @@ use crate::sectors::Sectors;
 use crate::waiting::Waiting;
 use satl_base::{NoMemory, Range};
 use satl_cdb::Command;
-use satl_unit::{Attention, Attentions};
+use satl_unit::{Attentions, powered_on};
 
 /// The blocks of the task at a place may be left by a loss of power, where it is an eligible WRITE (SBC-3 4.15).
 fn pend_task(waiting: &Waiting, sectors: &mut Sectors, place: usize) -> Result<(), NoMemory>
@@ -65,22 +65,6 @@ fn power_sectors(waiting: &Waiting, sectors: &mut Sectors) -> Result<(), NoMemor
 {
     pend_tasks(waiting, sectors)?;
     sectors.power()
-}
-
-/// The condition of a nexus that is to be told that the power was on (SAM-5 6.3).
-fn power_on() -> Attentions
-    ensures { result ≡ attentions.PowerOn ∷ [] }
-{
-    let mut conditions = Attentions::none();
-    conditions.post(Attention::PowerOn);
-    conditions
-}
-
-/// That for each of four nexuses (SAM-5 6.3).
-fn powered_on() -> [Attentions; 4]
-    ensures { result ≡ replicate 4 (attentions.PowerOn ∷ []) }
-{
-    [power_on(), power_on(), power_on(), power_on()]
 }
 
 /// Each nexus is to be told that the power was on, and nothing else (SAM-5 6.3).
