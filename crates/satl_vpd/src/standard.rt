@@ -6,7 +6,7 @@ use crate::text::{Text, characters, is_blank};
 use crate::words::{FIRMWARE, LATE_FIRMWARE, MODEL, SHORT_MODEL_END};
 use satl_identify::Identity;
 
-/// PERIPHERAL QUALIFIER and PERIPHERAL DEVICE TYPE of a direct access block device that is there (SPC-4 6.6.2).
+/// PERIPHERAL QUALIFIER and PERIPHERAL DEVICE TYPE of a direct access block device that is there (SPC-4, standard INQUIRY data).
 const BLOCK_DEVICE: u8 = 0x00;
 
 /// The same where there is no unit at the LUN.
