@@ -10,7 +10,7 @@ ghost use Rattle.satl_flight.specs.Settled.{HasReadLog, IsLogCutOff, IsLostInFli
 use crate::flight::Flight;
 use satl_base::{Pages, Steps};
 use satl_drive::{Drive, LinkDown, Report};
-use satl_errlog::{NcqError, read_log};
+use satl_errlog::{LOG_ADDRESS, NcqError, read_log};
 use satl_line::TaskSet;
 use satl_pages::Dma;
 use satl_regs::{AtaCommand, put_command};
@@ -94,7 +94,7 @@ fn read_error<D: Drive, L: Ledger>(
     ensures step { steps.new ≡ steps.old + 1 }
 {
     let regs = put_command(&AtaCommand::ReadLog {
-        log: 0x10,
+        log: LOG_ADDRESS,
         page: 0,
         blocks: 1,
     });
