@@ -6,8 +6,8 @@ ghost use Rattle.satl_identify.specs.Refusals.{IsIdentity, identity_in, identity
 use crate::identity::{Identity, IdentityFault};
 use crate::words::{
     ADDITIONAL, CACHE_BIT, CAPABILITIES, CAPACITY, CONFIGURATION, DATA_SET_MANAGEMENT, ENABLED,
-    LOOK_BIT, QUEUE_DEPTH, SATA_ADDITIONAL, SATA_CAPABILITIES, SECTOR_SIZE, SUPPORTED,
-    SUPPORTED_NEXT, bit_at, has_integrity, is_valid, number_at, word_at,
+    LOOK_BIT, MOST_TAG, SATA_ADDITIONAL, SATA_CAPABILITIES, SECTOR_SIZE, SUPPORTED, SUPPORTED_NEXT,
+    bit_at, has_integrity, is_valid, number_at, word_at,
 };
 use satl_base::checksum_of;
 
@@ -32,7 +32,7 @@ fn has_queue(bytes: &[u8; 512]) -> bool
     ensures { result ≡ has_queue bytes.now }
 {
     let ncq = bit_at(bytes, SATA_CAPABILITIES, 8);
-    let most_tag = word_at(bytes, QUEUE_DEPTH) & 0x1F;
+    let most_tag = word_at(bytes, MOST_TAG) & 0x1F;
     word_at(bytes, SATA_CAPABILITIES) != 0xFFFF && ncq && most_tag == 31
 }
 

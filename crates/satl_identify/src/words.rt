@@ -22,8 +22,8 @@ pub const CAPABILITIES: usize = 49;
 /// Additional supported features.
 pub const ADDITIONAL: usize = 69;
 
-/// Queue depth.
-pub const QUEUE_DEPTH: usize = 75;
+/// Queue depth: the greatest tag.
+pub const MOST_TAG: usize = 75;
 
 /// Serial ATA capabilities.
 pub const SATA_CAPABILITIES: usize = 76;

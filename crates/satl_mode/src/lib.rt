@@ -6,7 +6,6 @@ mod bits;
 mod change;
 mod descriptor;
 pub mod laws;
-mod mode_page;
 mod page;
 mod select;
 mod sense;

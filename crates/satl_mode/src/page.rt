@@ -4,8 +4,8 @@ ghost use Rattle.std.specs.Prelude.{◌≡◌, ◌≤◌, ◌+◌};
 ghost use Rattle.satl_mode.specs.ModePages.{changeable, defaults, page_byte, page_coded, row_of, shown_by, size_of};
 
 use crate::bits::{AWRE, AWRE_BYTE, D_SENSE, D_SENSE_BYTE, DRA, DRA_BYTE, WCE, WCE_BYTE};
-use crate::mode_page;
 use satl_base::Modes;
+use satl_cdb::mode_page;
 use satl_identify::Identity;
 
 /// A mode page of the profile (SPC-4 7.5, SBC-3).

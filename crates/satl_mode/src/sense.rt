@@ -8,10 +8,10 @@ ghost use Rattle.satl_mode.specs.ModeData.{header, long_lba_bit, mode_data, page
 
 use crate::bits::{DPOFUA, LONGLBA};
 use crate::descriptor::Descriptor;
-use crate::mode_page::ALL_PAGES;
 use crate::page::{ModePage, Shown, page_coded, shown_by};
 use arrayvec::ArrayVec;
 use satl_base::{Modes, append};
+use satl_cdb::mode_page::ALL_PAGES;
 use satl_identify::Identity;
 
 fn append_page(text: &mut ArrayVec<u8, 64>, page: ModePage, shown: &Shown)

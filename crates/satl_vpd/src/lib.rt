@@ -8,8 +8,6 @@ mod lun_list;
 mod standard;
 mod text;
 mod vital;
-mod vital_page;
-mod words;
 
 pub use capacity::{capacity10, capacity16};
 pub use lun_list::luns;

@@ -3,8 +3,8 @@ ghost use Rattle.std.specs.Prelude.{◌≡◌, length};
 ghost use Rattle.satl_vpd.specs.Standard.{revision, standard_data};
 
 use crate::text::{Text, characters, is_blank};
-use crate::words::{FIRMWARE, LATE_FIRMWARE, MODEL, SHORT_MODEL_END};
 use satl_identify::Identity;
+use satl_identify::words::{MODEL, REVISION};
 
 /// PERIPHERAL QUALIFIER and PERIPHERAL DEVICE TYPE of a direct access block device that is there (SPC-4, standard INQUIRY data).
 const BLOCK_DEVICE: u8 = 0x00;
@@ -29,9 +29,9 @@ fn revision(bytes: &[u8; 512]) -> Text
     ensures value { result.items ≡ revision bytes.now }
     ensures size { length result.items ≡ 4 }
 {
-    let late = characters(bytes, LATE_FIRMWARE, LATE_FIRMWARE + 1);
+    let late = characters(bytes, REVISION + 2, REVISION + 3);
     if is_blank(&late) {
-        characters(bytes, FIRMWARE, FIRMWARE + 1)
+        characters(bytes, REVISION, REVISION + 1)
     } else {
         late
     }
@@ -51,7 +51,7 @@ pub fn inquiry(identity: &Identity, lun0: bool) -> [u8; 36]
     data[4] = BYTES_BEHIND; // ADDITIONAL LENGTH
     data[7] = CMDQUE;
     data[8..16].copy_from_slice(b"ATA     "); // T10 VENDOR IDENTIFICATION
-    data[16..32].copy_from_slice(&characters(&identity.bytes, MODEL, SHORT_MODEL_END)); // PRODUCT IDENTIFICATION
+    data[16..32].copy_from_slice(&characters(&identity.bytes, MODEL, MODEL + 7)); // PRODUCT IDENTIFICATION
     data[32..].copy_from_slice(&revision(&identity.bytes)); // PRODUCT REVISION LEVEL
     data
 }

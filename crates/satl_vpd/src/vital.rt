@@ -6,15 +6,14 @@ ghost use Rattle.satl_base.specs.Lists.{is_in};
 ghost use Rattle.satl_vpd.specs.Vital.{ata_information, block_characteristics, block_limits, has_world_wide_name, identification, page_codes, provisioning, serial_number, vpd_page, vpd_page_bytes};
 
 use crate::text::characters;
-use crate::vital_page;
-use crate::words::{
-    FORM_FACTOR, FORM_FACTOR_BITS, HAS_NAME, MODEL, MODEL_END, NAME, NAME_END, ROTATION_RATE,
-    SERIAL, SERIAL_END, SETTINGS_87,
-};
 use arrayvec::ArrayVec;
 use byteorder::{BigEndian, ByteOrder};
 use satl_base::{MOST_COVERED, MOST_MOVED, MOST_RANGES, append};
-use satl_identify::{Identity, bit_at, word_at};
+use satl_cdb::vital_page;
+use satl_identify::words::{
+    ENABLED_LAST, FORM_FACTOR, MODEL, ROTATION_RATE, SERIAL, WORLD_WIDE_NAME,
+};
+use satl_identify::{Identity, bit_at, is_valid, word_at};
 
 /// CODE SET of a designation descriptor: ASCII text (SPC-4, Device Identification).
 const ASCII: u8 = 0x02;
@@ -27,6 +26,12 @@ const T10_VENDOR: u8 = 0x01;
 
 /// DESIGNATOR TYPE: NAA.
 const NAA: u8 = 0x03;
+
+/// Bit 8 of word 87 of IDENTIFY DEVICE data: there is a world wide name (ACS-3).
+const HAS_NAME: u8 = 8;
+
+/// Bits 3:0 of word 168 of IDENTIFY DEVICE data: the form factor (ACS-3).
+const FORM_FACTOR_BITS: u16 = 0x0F;
 
 /// IDENTIFY DEVICE (ACS-3 7.12).
 const IDENTIFY_DEVICE: u8 = 0xEC;
@@ -84,7 +89,7 @@ fn serial_number(identity: &Identity) -> VitalPage
     ensures { result.items ≡ vpd_page_bytes serial_number identity.now }
 {
     let mut page = begun(vital_page::SERIAL_NUMBER, 0x14);
-    append(&mut page, &characters(&identity.bytes, SERIAL, SERIAL_END)); // PRODUCT SERIAL NUMBER
+    append(&mut page, &characters(&identity.bytes, SERIAL, SERIAL + 9)); // PRODUCT SERIAL NUMBER
     page
 }
 
@@ -92,7 +97,7 @@ fn serial_number(identity: &Identity) -> VitalPage
 fn has_world_wide_name(bytes: &[u8; 512]) -> bool
     ensures { result ≡ has_world_wide_name bytes.now }
 {
-    word_at(bytes, SETTINGS_87) >> 14 == 1 && bit_at(bytes, SETTINGS_87, HAS_NAME)
+    is_valid(bytes, ENABLED_LAST) && bit_at(bytes, ENABLED_LAST, HAS_NAME)
 }
 
 fn identification_length(identity: &Identity) -> u16
@@ -112,11 +117,14 @@ fn identification(identity: &Identity) -> VitalPage
     let mut page = begun(vital_page::IDENTIFICATION, identification_length(identity));
     append(&mut page, &[ASCII, T10_VENDOR, 0x00, 0x44]); // CODE SET, DESIGNATOR TYPE, DESIGNATOR LENGTH
     append(&mut page, b"ATA     "); // T10 VENDOR IDENTIFICATION
-    append(&mut page, &characters(&identity.bytes, MODEL, MODEL_END)); // VENDOR SPECIFIC IDENTIFIER: model
-    append(&mut page, &characters(&identity.bytes, SERIAL, SERIAL_END)); // and serial number
+    append(&mut page, &characters(&identity.bytes, MODEL, MODEL + 19)); // VENDOR SPECIFIC IDENTIFIER: model
+    append(&mut page, &characters(&identity.bytes, SERIAL, SERIAL + 9)); // and serial number
     if has_world_wide_name(&identity.bytes) {
         append(&mut page, &[BINARY, NAA, 0x00, 0x08]); // CODE SET, DESIGNATOR TYPE, DESIGNATOR LENGTH
-        append(&mut page, &characters(&identity.bytes, NAME, NAME_END)); // DESIGNATOR
+        append(
+            &mut page,
+            &characters(&identity.bytes, WORLD_WIDE_NAME, WORLD_WIDE_NAME + 3),
+        ); // DESIGNATOR
     }
     page
 }
