@@ -7,4 +7,4 @@ mod status;
 mod tests;
 
 pub use command::{CBW_SIZE, Cbw, read_cbw};
-pub use status::csw_bytes;
+pub use status::{CswStatus, csw_bytes};

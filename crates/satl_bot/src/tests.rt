@@ -65,11 +65,11 @@ fn a_wrapper_is_refused(rt: HostRuntime) {
 #[test]
 fn a_status_is_told(rt: HostRuntime) {
     assert_eq!(rt;
-        &csw_bytes(1, 0, 0)[..],
+        &csw_bytes(1, 0, CswStatus::Passed)[..],
         b"USBS\x01\x00\x00\x00\x00\x00\x00\x00\x00".as_slice()
     );
     assert_eq!(rt;
-        &csw_bytes(0x0403_0201, 512, 1)[..],
+        &csw_bytes(0x0403_0201, 512, CswStatus::Failed)[..],
         b"USBS\x01\x02\x03\x04\x00\x02\x00\x00\x01".as_slice()
     );
 }

@@ -12,7 +12,10 @@ mod trim;
 mod values;
 mod writing;
 
-pub use codes::{ABRT, BAD_STATUS, DEVICE_LBA, GOOD_STATUS, ICRC_ABRT, IDNF, SMART_SIGNATURE, UNC};
+pub use codes::{
+    ABRT, BAD_STATUS, DEVICE_LBA, GOOD_STATUS, ICRC_ABRT, IDENTIFY_DEVICE, IDNF, SMART_SIGNATURE,
+    UNC,
+};
 pub use fields::{low_16, low_24, top_4_of_28};
 pub use queued::{put_queued, queued_of};
 pub use reading::command_of;

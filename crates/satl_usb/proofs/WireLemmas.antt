@@ -5,6 +5,7 @@ use Rattle.std.proofs.lemmas.Bool.{cases_lt}
 use Rattle.std.proofs.lemmas.List.{replicate-append-replicate, take_all, take-take, length-take}
 use Rattle.satl_base.specs.declared.reply.Scsi.{Scsi}
 use Rattle.satl_bot.specs.declared.command.Cbw.{Cbw}
+use Rattle.satl_bot.specs.declared.status.CswStatus.{CswStatus}
 use Rattle.satl_bot.specs.Wrappers.{csw_of}
 use Rattle.satl_frame.specs.Gathering.{Gathers}
 use Rattle.satl_frame.proofs.GatheringLemmas.{Gathers-more, gathers_end, gathers_end_part, gathers_part, part_of_front}
@@ -34,7 +35,7 @@ module _ (count left some : ℕ) (few : left ≤ count) (fewer : some ≤ left) 
 
 -- ---- zeros, and the wrapper of a status
 
-module _ (c : Cbw) (status : Scsi) (size missing code : ℕ) (wrapper : List ℕ) (zeros_are : missing ≡ residue c size) (code_is : code ≡ csw_status c status size) (wrapper_is : wrapper ≡ csw_of c.tag missing code) where
+module _ (c : Cbw) (status : Scsi) (size missing : ℕ) (code : CswStatus) (wrapper : List ℕ) (zeros_are : missing ≡ residue c size) (code_is : code ≡ csw_status c status size) (wrapper_is : wrapper ≡ csw_of c.tag missing code) where
   behind_is : replicate missing 0 ++ wrapper ≡ status_on_wire c status size
   behind_is = ap (λ l. replicate missing 0 ++ l) wrapper_is ∙ (ap (λ n. replicate n 0 ++ csw_of c.tag n code) zeros_are ∙ ap (λ n. replicate (residue c size) 0 ++ csw_of c.tag (residue c size) n) code_is)
 

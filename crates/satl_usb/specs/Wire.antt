@@ -7,6 +7,8 @@ use Rattle.satl_base.specs.declared.reply.Reply.{Reply}
 use Rattle.satl_base.specs.declared.reply.Scsi.{Scsi}
 use Rattle.satl_base.specs.declared.reply.Scsi.TheVariants as statuses
 use Rattle.satl_bot.specs.declared.command.Cbw.{Cbw}
+use Rattle.satl_bot.specs.declared.status.CswStatus.{CswStatus}
+use Rattle.satl_bot.specs.declared.status.CswStatus.TheVariants.{Passed, Failed, PhaseError}
 use Rattle.satl_bot.specs.Wrappers.{csw_of}
 
 -- how many bytes of data the host takes (5.3)
@@ -17,15 +19,15 @@ taken_length c = if c.is_in then c.length else 0
 abbrev pub residue : Cbw → ℕ → ℕ
 residue c size = taken_length c - size
 
--- 0 for GOOD, and else 1 (5.2; profile)
-abbrev pub ended_code : Scsi → ℕ
-ended_code statuses.Good = 0
-ended_code statuses.CheckCondition = 1
-ended_code statuses.TaskSetFull = 1
+-- passed for GOOD, and else failed (5.2; profile)
+abbrev pub ended_as : Scsi → CswStatus
+ended_as statuses.Good = Passed
+ended_as statuses.CheckCondition = Failed
+ended_as statuses.TaskSetFull = Failed
 
--- 2, phase error, where there is more data than the host takes (5.2; profile)
-abbrev pub csw_status : Cbw → Scsi → ℕ → ℕ
-csw_status c status size = if nat_lt (taken_length c) size then 2 else ended_code status
+-- phase error where there is more data than the host takes (5.2; profile)
+abbrev pub csw_status : Cbw → Scsi → ℕ → CswStatus
+csw_status c status size = if nat_lt (taken_length c) size then PhaseError else ended_as status
 
 -- behind so many bytes of data: zeros for what is missing of them, and the wrapper of the status (5.3, 6.7.2)
 abbrev pub status_on_wire : Cbw → Scsi → ℕ → List ℕ

@@ -7,7 +7,7 @@ ghost use Rattle.satl_io.specs.Known.{Wrote, WrotePart};
 ghost use Rattle.satl_usb.specs.Wire.{csw_status, kept_on_wire, reply_on_wire, status_on_wire, taken_length};
 
 use satl_base::{Reply, Scsi, SenseBytes};
-use satl_bot::{Cbw, csw_bytes};
+use satl_bot::{Cbw, CswStatus, csw_bytes};
 use satl_frame::{WriteBuffer, gather, gather_data, push};
 use satl_io::{Failed, Sink};
 
@@ -18,23 +18,16 @@ fn taken_length(command: &Cbw) -> u32
     if command.is_in { command.length } else { 0 }
 }
 
-// How a command ended, as a wrapper tells it (USB Mass Storage Class, Bulk-Only Transport 1.0, 5.2).
-const PASSED: u8 = 0;
-
-const FAILED: u8 = 1;
-
-const PHASE_ERROR: u8 = 2;
-
 /// The status of an answer: phase error where there is more data than the host takes, else passed or failed.
-fn csw_status(command: &Cbw, status: Scsi, size: u32) -> u8
+fn csw_status(command: &Cbw, status: Scsi, size: u32) -> CswStatus
     ensures { result ≡ csw_status command.now status size }
 {
     if taken_length(command) < size {
-        return PHASE_ERROR;
+        return CswStatus::PhaseError;
     }
     match status {
-        Scsi::Good => PASSED,
-        Scsi::CheckCondition | Scsi::TaskSetFull => FAILED,
+        Scsi::Good => CswStatus::Passed,
+        Scsi::CheckCondition | Scsi::TaskSetFull => CswStatus::Failed,
     }
 }
 

@@ -14,6 +14,7 @@ use satl_identify::words::{
     ENABLED_LAST, FORM_FACTOR, MODEL, ROTATION_RATE, SERIAL, WORLD_WIDE_NAME,
 };
 use satl_identify::{Identity, bit_at, is_valid, word_at};
+use satl_regs::IDENTIFY_DEVICE;
 
 /// CODE SET of a designation descriptor: ASCII text (SPC-4, Device Identification).
 const ASCII: u8 = 0x02;
@@ -32,9 +33,6 @@ const HAS_NAME: u8 = 8;
 
 /// Bits 3:0 of word 168 of IDENTIFY DEVICE data: the form factor (ACS-3).
 const FORM_FACTOR_BITS: u16 = 0x0F;
-
-/// IDENTIFY DEVICE (ACS-3 7.12).
-const IDENTIFY_DEVICE: u8 = 0xEC;
 
 /// WSNZ: a WRITE SAME of no blocks is refused (SBC-3, Block Limits).
 const WSNZ: u8 = 0x01;
