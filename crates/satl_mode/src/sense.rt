@@ -95,7 +95,7 @@ pub struct ModeSense {
     pub long_lba: bool,
     /// DBD.
     pub no_descriptor: bool,
-    /// Page control: current, changeable, default or saved values.
+    /// PC, 0 to 2: current, changeable or default values. Saved values, 3, are refused before (`satl_cdb`).
     pub control: u8,
     /// The page code, 3Fh for all pages.
     pub page: u8,
