@@ -31,4 +31,4 @@ returns-clause-around g c = λ whole cut.
     let was = layer_of i.identity i.modes i.started i.down i.attentions i.queue i.pool in
     subst (λ (l : Layer). Around (MayLose (Arrives whole)) (view l (g.D.Drive.state c.args.drive.now)) c.take_off.new.replies (view c.take_off.new.self (g.D.Drive.state c.take_off.new.drive))) c.self.view_is
     (overlap_around was (g.D.Drive.state c.args.drive.now) whole c.args.request (view c.take_off.new.self (g.D.Drive.state c.take_off.new.drive)) c.answer_at_once.new.replies c.take_off.new.replies (ap (λ (l : Layer). l.down) c.self.view_is ∙ c.requires.tied.agrees.mark) cut
-    (subst (λ (l : Layer). is_overlapping l.tasks c.args.request ≡ true) (sym c.self.view_is) c.requires.overlaps) (c.answer_at_once.ensures.reply ∙ ap (λ sense. reply_at_once i.identity i.modes c.args.request (at_once.Check sense) ∷ []) c.plain.ensures) c.take_off.ensures.removes)
+    (subst (λ (l : Layer). is_overlapping l.tasks c.args.request ≡ true) (sym c.self.view_is) c.requires.overlaps) (c.answer_at_once.ensures.reply ∙ ap (λ sense. reply_at_once i.identity i.modes c.args.request (at_once.Check sense) ∷ []) c.overlapped.ensures) c.take_off.ensures.removes)
