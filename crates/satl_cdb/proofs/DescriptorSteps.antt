@@ -9,7 +9,8 @@ use Rattle.satl_cdb.specs.Refusals.{list_out_of_range, invalid_list_field}
 use Rattle.satl_cdb.specs.Unmap.{descriptor, descriptors_from, descriptor_fault}
 use Rattle.satl_base.specs.Blocks.{is_used}
 
--- a loop over the descriptors is at place i, with a sum of counts and the ranges taken: what is left decides, and gives the other ranges
+-- a loop over the descriptors is at place i, with a sum of counts and the ranges taken: what is left decides, and gives the
+-- other ranges
 pub record IsAt (capacity : ℕ) (list : List Block) (count i sum : ℕ) (taken : List Range) : Type 0 where
   pub fault : descriptor_fault capacity i sum (descriptors_from i (count - i) list) ≡ descriptor_fault capacity 0 0 (descriptors_from 0 count list)
   pub ranges : taken ++ filter is_used (descriptors_from i (count - i) list) ≡ filter is_used (descriptors_from 0 count list)

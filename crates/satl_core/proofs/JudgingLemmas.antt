@@ -71,8 +71,8 @@ pub record IsGood (l : Layer) (r : Request) (c : Command) : Type 0 where
   pub some : is_idle c r.body ≡ false
   pub untold : IsTold c → ⊥
 
--- the tests of a command that is not answered at once: its fields, its range, the length of its list, the bytes of data-out, and what is in
--- them
+-- the tests of a command that is not answered at once: its fields, its range, the length of its list, the bytes of data-out,
+-- and what is in them
 abbrev pub tested : Option Illegal → Bool → Option Illegal → Bool → Option Illegal → Result Command AtOnce → Result Command AtOnce
 tested fields outside header short sound next =
     unless_illegal fields (cond outside (Err (at_once.Check out_of_range)) (unless_illegal header (cond short (Err (at_once.Check short_data)) (unless_illegal sound next))))

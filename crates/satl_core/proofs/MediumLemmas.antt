@@ -35,7 +35,7 @@ use Rattle.satl_barrier.specs.Finishing as barrier
 use Rattle.satl_barrier.specs.Finishing.{ComparesAs, FinishesAs, IsVerified, IsTorn, trimming_ranges, verifying_range, writing_same}
 use Rattle.satl_direct.specs.Device.{Device, without}
 use Rattle.satl_direct.specs.Tasks.{asks, task_of}
-use Rattle.satl_direct.specs.Ending.{EndsBy, EndsCompared, EndsGlitched, EndsInPieces, EndsOnSurface, EndsVerified, IsChecked, IsCompared, IsTaskDone, IsPartlyWritten, same_pairs, task_check, task_reply}
+use Rattle.satl_direct.specs.Ending.{EndsBy, EndsCompared, EndsWithCrcError, EndsInPieces, EndsOnSurface, EndsVerified, IsChecked, IsCompared, IsTaskDone, IsPartlyWritten, same_pairs, task_check, task_reply}
 use Rattle.satl_direct.specs.Quiet.{MayShow, MayWake, Quiet, is_pass, wakes, writes}
 use Rattle.satl_direct.specs.Senses.{crc_error, miscompare, read_error, write_error}
 use Rattle.satl_direct.proofs.Quieting.{quiet_none}
@@ -121,8 +121,8 @@ verified_by : (s : Device) (t : Entry) (reply : Reply) (new : Device) (range : R
 verified_by s t reply new range o is x = subst (λ o. MatchOption o (IsTaskDone (record s { active = true }) t reply new) (λ at. IsChecked (read_error at) s t reply new)) (sym is) x
 
 compared_by : (s : Device) (t : Entry) (reply : Reply) (new : Device) (range : Range) (o : Option ℕ) → first_flaw flaws.Read s.cells range.lba range.count ≡ o
-    → MatchOption o (EndsGlitched [] s t reply new ⊎ IsCompared range s t reply new) (λ at. IsChecked (read_error at) s t reply new) → EndsCompared range s t reply new
-compared_by s t reply new range o is x = subst (λ o. MatchOption o (EndsGlitched [] s t reply new ⊎ IsCompared range s t reply new) (λ at. IsChecked (read_error at) s t reply new)) (sym is) x
+    → MatchOption o (EndsWithCrcError [] s t reply new ⊎ IsCompared range s t reply new) (λ at. IsChecked (read_error at) s t reply new) → EndsCompared range s t reply new
+compared_by s t reply new range o is x = subst (λ o. MatchOption o (EndsWithCrcError [] s t reply new ⊎ IsCompared range s t reply new) (λ at. IsChecked (read_error at) s t reply new)) (sym is) x
 
 -- what a WRITE SAME writes
 abbrev same_writes : Range → Device → Entry → List Pair
@@ -137,7 +137,7 @@ stays_so : (s new : Device) (cells : List Cell) (tasks : List Entry) (glitches :
 stays_so s new cells tasks glitches same is left = same ∙ (ap (λ c. record s { cells = c; tasks = tasks; glitches = glitches }) is ∙ ap (λ n. record s { tasks = tasks; glitches = n }) left)
 
 -- a CRC error, with part of what is written
-garbled : (s : Device) (t : Entry) (reply : Reply) (new : Device) (torn : List Cell) (writes : List Pair) (left : ℕ) → reply ≡ task_check s t crc_error → new ≡ record s { cells = torn; tasks = without t s.tasks; glitches = left } → Part s.cells writes torn → left + 1 ≡ s.glitches → EndsGlitched writes s t reply new
+garbled : (s : Device) (t : Entry) (reply : Reply) (new : Device) (torn : List Cell) (writes : List Pair) (left : ℕ) → reply ≡ task_check s t crc_error → new ≡ record s { cells = torn; tasks = without t s.tasks; glitches = left } → Part s.cells writes torn → left + 1 ≡ s.glitches → EndsWithCrcError writes s t reply new
 garbled s t reply new torn writes left answer same part one = record {
   answer = answer;
   part = subst (Part s.cells writes) (sym (ap (λ (x : Device). x.cells) same)) part;

@@ -14,8 +14,8 @@ use Rattle.satl_cdb.specs.Table.{pass_through_12, pass_through_16, says, table}
 use Rattle.satl_asks.proofs.Passing.{unbroken}
 use Rattle.satl_core.specs.Submitting.{HasLengths}
 
--- what is known of a command by its bytes: how many blocks it may go over, that a parameter list has fewer than 65,536 bytes, and that it trims
--- on a drive with trim alone
+-- what is known of a command by its bytes: how many blocks it may go over, that a parameter list has fewer than 65,536 bytes,
+-- and that it trims on a drive with trim alone
 abbrev pub IsSaid : List ℕ → Bool → Command → Type 0
 IsSaid cdb trim (cdbs.Read form lba count fua) = slice_index cdb 4 < 256 → count ≤ 4096
 IsSaid cdb trim (cdbs.Write form lba count fua) = slice_index cdb 4 < 256 → count ≤ 4096

@@ -9,8 +9,8 @@ use Rattle.satl_pass.specs.Reading.{CanGoToDrive}
 use Rattle.satl_direct.specs.Tasks.{held_blocks, needed, pass_of}
 use Rattle.satl_core.specs.Layer.{FitsCapacity, IsTask, IsWithin, entry_pages}
 
--- what holds of each READ, WRITE, SYNCHRONIZE CACHE, START STOP UNIT, MODE SELECT, VERIFY without and with comparison, WRITE SAME, UNMAP and
--- ATA PASS-THROUGH holds of a command that makes a task
+-- what holds of each READ, WRITE, SYNCHRONIZE CACHE, START STOP UNIT, MODE SELECT, VERIFY without and with comparison, WRITE
+-- SAME, UNMAP and ATA PASS-THROUGH holds of a command that makes a task
 pub of_task : (P : Command → Type 0) (capacity n : ℕ) (command : Command)
     → ((form : Form) (lba count : ℕ) (fua : Bool) → IsWithin capacity lba count n → P (cdbs.Read form lba count fua))
     → ((form : Form) (lba count : ℕ) (fua : Bool) → IsWithin capacity lba count n → P (cdbs.Write form lba count fua))

@@ -93,7 +93,7 @@ pub record EndsOnSurface (ranged : RangedTask) (s : Device) (t : Entry) (reply :
   }
 
 -- a CRC error: what the task writes is written in part, and one glitch is used up (SPC-4 4.5.6; profile)
-pub record EndsGlitched (writes : List Pair) (s : Device) (t : Entry) (reply : Reply) (new : Device) : Type 0 where
+pub record EndsWithCrcError (writes : List Pair) (s : Device) (t : Entry) (reply : Reply) (new : Device) : Type 0 where
   pub answer : reply ≡ task_check s t crc_error
   pub part : Part s.cells writes new.cells
   pub one_glitch : new.glitches + 1 ≡ s.glitches
@@ -116,7 +116,7 @@ same_pairs lba count (block ∷ blocks) cached = pairs_from lba (replicate count
 abbrev pub EndsInPieces : Range → Device → Entry → Reply → Device → Type 0
 EndsInPieces range s t reply new =
     let writes : List Pair = same_pairs range.lba range.count t.body s.modes.wce in
-    ((first_flaw flaws.Write s.cells range.lba (min piece range.count) ≡ None) × EndsGlitched writes s t reply new)
+    ((first_flaw flaws.Write s.cells range.lba (min piece range.count) ≡ None) × EndsWithCrcError writes s t reply new)
     ⊎ MatchOption (first_flaw flaws.Write s.cells range.lba range.count)
     (IsTaskDone (record s { cells = whole s.cells writes; active = true }) t reply new)
     (λ at. (reply ≡ task_check s t (write_error at)) × IsPartlyWritten writes s t new)
@@ -139,7 +139,7 @@ IsCompared range s t reply new =
 abbrev pub EndsCompared : Range → Device → Entry → Reply → Device → Type 0
 EndsCompared range s t reply new =
     MatchOption (first_flaw flaws.Read s.cells range.lba range.count)
-    (EndsGlitched [] s t reply new ⊎ IsCompared range s t reply new)
+    (EndsWithCrcError [] s t reply new ⊎ IsCompared range s t reply new)
     (λ at. IsChecked (read_error at) s t reply new)
 
 -- every sector is written back, also those outside the range of the command (SBC-3, SYNCHRONIZE CACHE; that its range is not

@@ -18,7 +18,7 @@ use Rattle.satl_line.specs.Ending.{Outcome}
 use Rattle.satl_line.specs.Ending.Outcome.{ends_done}
 use Rattle.satl_direct.specs.Device.{Device, without}
 use Rattle.satl_direct.specs.Tasks.{asks}
-use Rattle.satl_direct.specs.Ending.{Ends, EndsBy, EndsCompared, EndsGlitched, EndsInPieces, EndsOnSurface, EndsPassed, EndsVerified, IsChecked, IsTaskDone, IsPartlyWritten, after_select, after_start_stop, outcome_reply, settled, device_settled_if, selected, task_check}
+use Rattle.satl_direct.specs.Ending.{Ends, EndsBy, EndsCompared, EndsWithCrcError, EndsInPieces, EndsOnSurface, EndsPassed, EndsVerified, IsChecked, IsTaskDone, IsPartlyWritten, after_select, after_start_stop, outcome_reply, settled, device_settled_if, selected, task_check}
 use Rattle.satl_direct.specs.Senses.{write_error}
 use Rattle.satl_direct.specs.Turn.{IsFirst, MayEnd}
 use Rattle.satl_laws.proofs.Cases.{by_bool, by_option}
@@ -66,7 +66,7 @@ module _ (s new : Device) (t : Entry) (reply : Reply) where
     tag = ap (λ r. r.tag) e.answer ∙ outcome_tag ranged e.outcome;
   }
 
-  garbled_leaves : (writes : List Pair) → EndsGlitched writes s t reply new → Leaves s t reply new
+  garbled_leaves : (writes : List Pair) → EndsWithCrcError writes s t reply new → Leaves s t reply new
   garbled_leaves writes e = record { tasks = ap (λ d. d.tasks) e.stays; nexus = ap (λ r. r.nexus) e.answer; tag = ap (λ r. r.tag) e.answer }
 
   torn_leaves : (writes : List Pair) (lba : ℕ) → reply ≡ task_check s t (write_error lba) → IsPartlyWritten writes s t new → Leaves s t reply new

@@ -36,8 +36,8 @@ module _ (first : Device) where
   abbrev pub IsOnly : List Answer → Item → Type 0
   IsOnly answers i = (x : ℕ) → i.acted x ≡ true → was_done answers i.request ≡ true
 
-  -- the cells and tasks of the device after some events and answers; where it is faithful, each WRITE that has acted was answered
-  -- with GOOD
+  -- the cells and tasks of the device after some events and answers; where it is faithful, each WRITE that has acted was
+  -- answered with GOOD
   pub record InOrder (events : List Frame) (answers : List Answer) (cells : List Cell) (tasks : List Entry)
       (faithful : Bool) : Type 0 where
     pub items : List Item

@@ -46,8 +46,8 @@ module _ (first : Device) (exact : Bool) where
   abbrev pub AreSteady : List Entry → Type 0
   AreSteady tasks = AllByRecursion (λ t. stops_or_starts (Ok t.command) ≡ false) tasks
 
-  -- the device after some events and answers; where the run is exact and its link is up it is calm, and each WRITE that has acted
-  -- was answered with GOOD
+  -- the device after some events and answers; where the run is exact and its link is up it is calm, and each WRITE that has
+  -- acted was answered with GOOD
   pub record InOrderAt (events : List Frame) (answers : List Answer) (s : Device) : Type 0 where
     pub identity : s.identity ≡ first.identity
     pub order : InOrder first events answers s.cells s.tasks (exact && not s.down)

@@ -11,7 +11,7 @@ use Rattle.satl_base.specs.Lists.{how_many}
 use Rattle.satl_line.specs.declared.entry.Entry.{Entry}
 use Rattle.satl_line.specs.Blank.{no_entry}
 use Rattle.satl_line.specs.Tasks.{Held, is_named}
-use Rattle.satl_line.specs.Layout.{AreCounted, has_low_byte, held_in, low_byte, one_fewer, one_more, tasks_in}
+use Rattle.satl_line.specs.Layout.{CountLowBytes, has_low_byte, held_in, low_byte, one_fewer, one_more, tasks_in}
 
 -- ---- counts
 
@@ -62,7 +62,7 @@ low_is_small : (tag : Tag) → low_byte tag < 256
 low_is_small tag = omega arith
 
 -- the counts as a task comes
-pub counted_more : (tasks : List Held) (held : Held) (tag_counts : List ℕ) → AreCounted tasks tag_counts → AreCounted (tasks ++ held ∷ []) (one_more tag_counts held.entry.tag)
+pub counted_more : (tasks : List Held) (held : Held) (tag_counts : List ℕ) → CountLowBytes tasks tag_counts → CountLowBytes (tasks ++ held ∷ []) (one_more tag_counts held.entry.tag)
 counted_more tasks held tag_counts h = record {
   wide = length-set tag_counts (low_byte held.entry.tag) (get_or tag_counts (low_byte held.entry.tag) 0 + 1) ∙ h.wide;
   each = λ low small. each low small ∙ sym (how_many-push (has_low_byte low) tasks held);
@@ -81,7 +81,7 @@ counted_more tasks held tag_counts h = record {
         ]) refl
 
 -- and as one leaves
-pub counted_fewer : (front : List Held) (held : Held) (back : List Held) (tag_counts : List ℕ) → AreCounted (front ++ held ∷ back) tag_counts → AreCounted (front ++ back) (one_fewer tag_counts held.entry.tag)
+pub counted_fewer : (front : List Held) (held : Held) (back : List Held) (tag_counts : List ℕ) → CountLowBytes (front ++ held ∷ back) tag_counts → CountLowBytes (front ++ back) (one_fewer tag_counts held.entry.tag)
 counted_fewer front held back tag_counts h = record {
   wide = length-set tag_counts (low_byte held.entry.tag) (get_or tag_counts (low_byte held.entry.tag) 0 - 1) ∙ h.wide;
   each = λ low small. each low small (count_without (has_low_byte low) front held back);
@@ -100,26 +100,26 @@ counted_fewer front held back tag_counts h = record {
         ]) refl
 
 -- the count of a task that is there is not 0
-pub counted_some : (front : List Held) (held : Held) (back : List Held) (tag_counts : List ℕ) → AreCounted (front ++ held ∷ back) tag_counts → 1 ≤ get_or tag_counts (low_byte held.entry.tag) 0
+pub counted_some : (front : List Held) (held : Held) (back : List Held) (tag_counts : List ℕ) → CountLowBytes (front ++ held ∷ back) tag_counts → 1 ≤ get_or tag_counts (low_byte held.entry.tag) 0
 counted_some front held back tag_counts h =
     let here : one (low_byte held.entry.tag == low_byte held.entry.tag) ≡ 1 = ap one (eq-eqb (low_byte held.entry.tag) (low_byte held.entry.tag) refl) in
     omega (arith, here, count_without (has_low_byte (low_byte held.entry.tag)) front held back, h.each (low_byte held.entry.tag) (low_is_small held.entry.tag))
 
 -- no count is greater than the number of tasks
-pub counted_few : (tasks : List Held) (tag_counts : List ℕ) (tag : Tag) → AreCounted tasks tag_counts → get_or tag_counts (low_byte tag) 0 ≤ length tasks
+pub counted_few : (tasks : List Held) (tag_counts : List ℕ) (tag : Tag) → CountLowBytes tasks tag_counts → get_or tag_counts (low_byte tag) 0 ≤ length tasks
 counted_few tasks tag_counts tag h = omega (arith, h.each (low_byte tag) (low_is_small tag), count_within (has_low_byte (low_byte tag)) tasks)
 
 -- where the count of a tag is 0, no task has the tag
-pub not_counted : (tasks : List Held) (tag_counts : List ℕ) (nexus : ℕ) (tag : Tag) (count : ℕ) → AreCounted tasks tag_counts → count ≡ get_or tag_counts (low_byte tag) 0 → count ≡ 0 → position_from (is_named nexus tag) 0 tasks ≡ None
+pub not_counted : (tasks : List Held) (tag_counts : List ℕ) (nexus : ℕ) (tag : Tag) (count : ℕ) → CountLowBytes tasks tag_counts → count ≡ get_or tag_counts (low_byte tag) 0 → count ≡ 0 → position_from (is_named nexus tag) 0 tasks ≡ None
 not_counted tasks tag_counts nexus tag count h is none = none_named nexus tag tasks (sym (h.each (low_byte tag) (low_is_small tag)) ∙ sym is ∙ none)
 
 -- the same of the tasks in slots, as the task in one of them leaves
-pub counted_out : (slots : List Entry) (front : List ℕ) (s : ℕ) (back : List ℕ) (e : Entry) (tasks : List Held) (tag_counts : List ℕ) → AreCounted (tasks_in slots (front ++ s ∷ back)) tag_counts → get_or slots s no_entry ≡ e → tasks ≡ tasks_in slots (front ++ back) →
-    AreCounted tasks (one_fewer tag_counts e.tag) × (1 ≤ get_or tag_counts (low_byte e.tag) 0)
+pub counted_out : (slots : List Entry) (front : List ℕ) (s : ℕ) (back : List ℕ) (e : Entry) (tasks : List Held) (tag_counts : List ℕ) → CountLowBytes (tasks_in slots (front ++ s ∷ back)) tag_counts → get_or slots s no_entry ≡ e → tasks ≡ tasks_in slots (front ++ back) →
+    CountLowBytes tasks (one_fewer tag_counts e.tag) × (1 ≤ get_or tag_counts (low_byte e.tag) 0)
 counted_out slots front s back e tasks tag_counts h is tasks_are =
-    let parts : AreCounted (tasks_in slots front ++ held_in slots s ∷ tasks_in slots back) tag_counts = subst (λ l. AreCounted l tag_counts) (map-append (held_in slots) front (s ∷ back)) h in
-    let fewer : AreCounted (tasks_in slots front ++ tasks_in slots back) (one_fewer tag_counts e.tag)
-    = subst (λ (x : Entry). AreCounted (tasks_in slots front ++ tasks_in slots back) (one_fewer tag_counts x.tag)) is (counted_fewer (tasks_in slots front) (held_in slots s) (tasks_in slots back) tag_counts parts) in (
-      subst (λ l. AreCounted l (one_fewer tag_counts e.tag)) (sym (tasks_are ∙ map-append (held_in slots) front back)) fewer,
+    let parts : CountLowBytes (tasks_in slots front ++ held_in slots s ∷ tasks_in slots back) tag_counts = subst (λ l. CountLowBytes l tag_counts) (map-append (held_in slots) front (s ∷ back)) h in
+    let fewer : CountLowBytes (tasks_in slots front ++ tasks_in slots back) (one_fewer tag_counts e.tag)
+    = subst (λ (x : Entry). CountLowBytes (tasks_in slots front ++ tasks_in slots back) (one_fewer tag_counts x.tag)) is (counted_fewer (tasks_in slots front) (held_in slots s) (tasks_in slots back) tag_counts parts) in (
+      subst (λ l. CountLowBytes l (one_fewer tag_counts e.tag)) (sym (tasks_are ∙ map-append (held_in slots) front back)) fewer,
       subst (λ (x : Entry). 1 ≤ get_or tag_counts (low_byte x.tag) 0) is (counted_some (tasks_in slots front) (held_in slots s) (tasks_in slots back) tag_counts parts),
     )

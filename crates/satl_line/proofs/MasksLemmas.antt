@@ -12,7 +12,7 @@ use Rattle.std.proofs.lemmas.List.Folds.{list_any-append, map_fixed}
 use Rattle.std.proofs.lemmas.Nat.{and_le_l}
 use Rattle.std.proofs.lemmas.Nat.Bits.{bit_at_set_same, bit_at_set_other, bit_at_clear_same, bit_at_clear_other, bit_at_or, same_from_bits_below, bit_at-zero}
 use Rattle.satl_line.specs.Conflict.{Access, accesses_conflict}
-use Rattle.satl_line.specs.Layout.{SlotAccess, is_marked, IsMask, HaveMasks, IsWithin, clear_bit, cleared, with_slot}
+use Rattle.satl_line.specs.Layout.{SlotAccess, is_marked, IsMask, HaveMasks, HasNoOther, clear_bit, cleared, with_slot}
 
 abbrev pub bit : Bool → ℕ
 bit b = if b then 1 else 0
@@ -199,22 +199,22 @@ with_slot_other false s number q small other = refl
 -- ---- the slots that masks may have
 
 -- no slot, where all masks are 0
-pub within_none : All (IsWithin 0) (replicate {A = ℕ} 64 0)
-within_none = All-replicate (IsWithin 0) 64 0 (λ q small none. none)
+pub within_none : All (HasNoOther 0) (replicate {A = ℕ} 64 0)
+within_none = All-replicate (HasNoOther 0) 64 0 (λ q small none. none)
 
 -- those of one more mask
-pub within_more : (marked mask slot : ℕ) (masks : List ℕ) → All (IsWithin marked) masks → All (IsWithin (bit_or marked mask)) (set masks slot mask)
+pub within_more : (marked mask slot : ℕ) (masks : List ℕ) → All (HasNoOther marked) masks → All (HasNoOther (bit_or marked mask)) (set masks slot mask)
 within_more marked mask slot masks within =
-    All-set (IsWithin (bit_or marked mask)) masks slot mask (λ q small none. omega (arith, bit_at_or marked mask q, none))
-    (All-weaker (IsWithin marked) (IsWithin (bit_or marked mask)) (λ m kept q small none. kept q small (omega (arith, bit_at_or marked mask q, none))) masks within)
+    All-set (HasNoOther (bit_or marked mask)) masks slot mask (λ q small none. omega (arith, bit_at_or marked mask q, none))
+    (All-weaker (HasNoOther marked) (HasNoOther (bit_or marked mask)) (λ m kept q small none. kept q small (omega (arith, bit_at_or marked mask q, none))) masks within)
 
 -- all but a slot that is taken out
-pub within_fewer : (marked slot : ℕ) (masks : List ℕ) → slot < 64 → All (IsWithin marked) masks → All (IsWithin (clear_bit slot marked)) (cleared masks slot)
+pub within_fewer : (marked slot : ℕ) (masks : List ℕ) → slot < 64 → All (HasNoOther marked) masks → All (HasNoOther (clear_bit slot marked)) (cleared masks slot)
 within_fewer marked slot masks small within =
-    All-set (IsWithin (clear_bit slot marked)) (map (clear_bit slot) masks) slot 0 (λ q lt none. bit_at-zero q)
-    (All-map (IsWithin (clear_bit slot marked)) (clear_bit slot) masks (All-weaker (IsWithin marked) (λ m. IsWithin (clear_bit slot marked) (clear_bit slot m)) fewer masks within))
+    All-set (HasNoOther (clear_bit slot marked)) (map (clear_bit slot) masks) slot 0 (λ q lt none. bit_at-zero q)
+    (All-map (HasNoOther (clear_bit slot marked)) (clear_bit slot) masks (All-weaker (HasNoOther marked) (λ m. HasNoOther (clear_bit slot marked) (clear_bit slot m)) fewer masks within))
   where
-    fewer : (m : ℕ) → IsWithin marked m → IsWithin (clear_bit slot marked) (clear_bit slot m)
+    fewer : (m : ℕ) → HasNoOther marked m → HasNoOther (clear_bit slot marked) (clear_bit slot m)
     fewer m kept q lt none =
         (elim (q == slot) as (λ b. (q == slot) ≡ b → bit_at (clear_bit slot m) q ≡ 0) [
           | true ↦ λ e. subst (λ r. bit_at (clear_bit slot m) r ≡ 0) (sym (eqb-true q slot e)) (bit_at_clear_same w64 m slot small)
@@ -231,6 +231,6 @@ clear_none slot mask small fits none =
     ]) refl)
 
 -- and so do all where no mask may have it
-pub clear_none_of : (marked slot : ℕ) (masks : List ℕ) → slot < 64 → All (λ m. m < 2 ^ 64) masks → All (IsWithin marked) masks → bit_at marked slot ≡ 0 → masks ≡ map (clear_bit slot) masks
+pub clear_none_of : (marked slot : ℕ) (masks : List ℕ) → slot < 64 → All (λ m. m < 2 ^ 64) masks → All (HasNoOther marked) masks → bit_at marked slot ≡ 0 → masks ≡ map (clear_bit slot) masks
 clear_none_of marked slot masks small fits within none =
     sym (map_fixed (clear_bit slot) masks (λ k d lt. clear_none slot (get_or masks k d) small (fits k d lt) (within k d lt slot small none)))

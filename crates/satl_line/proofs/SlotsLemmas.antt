@@ -23,7 +23,7 @@ use Rattle.satl_line.specs.Outlines.{IsOutline, is_active, no_outline, outline_i
 use Rattle.satl_line.specs.Conflict.{access_of, accesses_conflict, conflicts}
 use Rattle.satl_line.specs.Eligible.{eligible_at, is_clear_by}
 use Rattle.satl_line.specs.Tasks.{AreOwnSlots, AreMasks, is_barred_from, entries_of, Held, count_of, slots_of, total_blocks, entry_at, Adds, with_body}
-use Rattle.satl_line.specs.Layout.{SlotAccess, mark_of, is_marked, IsMask, HaveMasks, IsMasked, clear_bit, cleared, held_in, tasks_in, AreNoted, IsNoted, IsWithin, with_slot, AreCounted, has_low_byte, low_byte, one_fewer, one_more, SetInMemory, FitTogether, is_unbarred_at}
+use Rattle.satl_line.specs.Layout.{SlotAccess, mark_of, is_marked, IsMask, HaveMasks, IsMasked, clear_bit, cleared, held_in, tasks_in, AreNoted, IsNoted, HasNoOther, with_slot, CountLowBytes, has_low_byte, low_byte, one_fewer, one_more, SetInMemory, FitTogether, is_unbarred_at}
 use Rattle.satl_line.proofs.CountsLemmas.{counted_few, counted_more, counted_out}
 use Rattle.satl_line.proofs.OutlinesLemmas.{EachIs, apart_where_quiet, outline_with}
 use Rattle.satl_line.proofs.MasksLemmas.{bit, bit_is_zero, with_slot_here, with_slot_other, unmarked, HasNot, AreSmall, is_struck, zero_mask, are_removed, are_added, within_none, within_more, within_fewer, get_or-cleared, mask_more_yes, mask_more_no}
@@ -344,7 +344,7 @@ sound_with layout free s mask e o own h fits is =
         total = ap total_blocks tasks ∙ omega (arith, total-append (tasks_in layout.slots layout.order) (record { slot = s; entry = e } ∷ []), h.total);
         few = fits;
         noted = noted_with layout.outlines layout.order free s layout.active o small (omega (arith, h.outlined.room)) none (omega (arith, h.once s small, count-append s free (s ∷ []), count_one s)) h.noted;
-        counted = subst (λ l. AreCounted l (one_more layout.tag_counts e.tag)) (sym tasks) (counted_more (tasks_in layout.slots layout.order) (record { slot = s; entry = e }) layout.tag_counts h.counted);
+        counted = subst (λ l. CountLowBytes l (one_more layout.tag_counts e.tag)) (sym tasks) (counted_more (tasks_in layout.slots layout.order) (record { slot = s; entry = e }) layout.tag_counts h.counted);
       },
       tasks,
       small,
@@ -478,7 +478,7 @@ sound_new slots outlines free masks order tag_counts wide room none zeros nothin
       once = λ q lt. omega (arith, once q lt);
       count = omega (arith, long);
       masked = record { full = tt; empty = λ q gone. ap (λ l. get_or l q 0) zeros ∙ get_or-replicate_same 64 q };
-      within = subst (All (IsWithin 0)) (sym zeros) within_none;
+      within = subst (All (HasNoOther 0)) (sym zeros) within_none;
       outlined = record { room = wide; each = tt };
       total = refl;
       few = omega arith;

@@ -58,8 +58,8 @@ abbrev pub cleared : List ℕ → ℕ → List ℕ
 cleared masks slot = slice_set (map (clear_bit slot) masks) slot 0
 
 -- the mask has no slot but those whose bit in a number is 1
-abbrev pub IsWithin : ℕ → ℕ → Type 0
-IsWithin marked mask = (slot : ℕ) → slot < 64 → bit_at marked slot ≡ 0 → bit_at mask slot ≡ 0
+abbrev pub HasNoOther : ℕ → ℕ → Type 0
+HasNoOther marked mask = (slot : ℕ) → slot < 64 → bit_at marked slot ≡ 0 → bit_at mask slot ≡ 0
 
 -- whether the mask of the task at a place is 0
 abbrev pub is_unbarred_at : List ℕ → List ℕ → ℕ → Bool
@@ -87,7 +87,7 @@ abbrev pub has_low_byte : ℕ → Held → Bool
 has_low_byte low held = low_byte held.entry.tag == low
 
 -- for each low byte of a tag, how many of these tasks have it
-pub record AreCounted (tasks : List Held) (tag_counts : List ℕ) : Type 0 where
+pub record CountLowBytes (tasks : List Held) (tag_counts : List ℕ) : Type 0 where
   pub wide : length tag_counts ≡ 256
   pub each : (low : ℕ) → low < 256 → slice_index tag_counts low ≡ how_many (has_low_byte low) tasks
 
@@ -133,9 +133,9 @@ pub record FitTogether (layout : SetInMemory) : Type 0 where
   pub once : (slot : ℕ) → slot < 64 → count_of slot layout.order + count_of slot layout.free ≡ 1
   pub count : length layout.order + length layout.free ≡ 64
   pub masked : IsMasked (tasks_in layout.slots layout.order) layout.masks
-  pub within : All (IsWithin layout.marked) layout.masks
+  pub within : All (HasNoOther layout.marked) layout.masks
   pub outlined : AreOutlines layout.slots layout.outlines layout.order
   pub total : total_blocks (tasks_in layout.slots layout.order) ≡ layout.blocks
   pub few : layout.blocks ≤ most_held
   pub noted : AreNoted layout.outlines layout.order layout.free layout.active
-  pub counted : AreCounted (tasks_in layout.slots layout.order) layout.tag_counts
+  pub counted : CountLowBytes (tasks_in layout.slots layout.order) layout.tag_counts

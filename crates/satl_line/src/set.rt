@@ -8,7 +8,7 @@ ghost use Rattle.satl_base.specs.Lists.{change_at};
 ghost use Rattle.satl_line.specs.Conflict.{access_of, conflicts};
 ghost use Rattle.satl_line.specs.Eligible.{eligible_at};
 ghost use Rattle.satl_line.specs.Tasks.{Adds, AreMasks, AreOwnSlots, IsReadyMask, count_of, entries_of, entry_at, is_named, is_too_much, slots_of, total_blocks, with_body};
-ghost use Rattle.satl_line.specs.Layout.{IsMask, IsWithin, clear_bit, cleared, held_in, is_unbarred_at, low_byte, mark_of, one_fewer, one_more, tasks_in, with_slot};
+ghost use Rattle.satl_line.specs.Layout.{IsMask, HasNoOther, clear_bit, cleared, held_in, is_unbarred_at, low_byte, mark_of, one_fewer, one_more, tasks_in, with_slot};
 ghost use Rattle.satl_line.specs.Outlines.{AreOutlines, IsOutline, is_of_name, no_outline, outline_in, outlines_in};
 
 use crate::boxed::TaskBox;
@@ -399,7 +399,7 @@ fn conflicts_in(
 /// Whether a mask may have a slot. Where none has it, to take it out changes none.
 fn may_have(masks: &[u64], slot: u8, marked: u64) -> bool
     requires small { slot < 64 }
-    requires within { All (IsWithin marked) masks.now }
+    requires within { All (HasNoOther marked) masks.now }
     ensures { result ≡ false → masks.now ≡ map (clear_bit slot) masks.now }
 {
     has_slot(marked, slot)
@@ -409,7 +409,7 @@ fn may_have(masks: &[u64], slot: u8, marked: u64) -> bool
 fn clear_slot(masks: &mut [u64], slot: u8, marked: u64)
     requires small { slot < 64 }
     requires room { length masks.old ≡ 64 }
-    requires within { All (IsWithin marked) masks.old }
+    requires within { All (HasNoOther marked) masks.old }
     ensures { masks.new ≡ cleared masks.old slot }
 {
     if may_have(masks, slot, marked) {

@@ -48,19 +48,21 @@ read_fails_among_writes =
     it_can_happen flaw_among_writes
     -- the bench sets the flaw of sector 1: nothing is answered, and no other field of the device changes
     (next (happens [] struck (record { none = refl; new_is = refl }))
-    -- each of three commands passes all tests of an arrival (logical unit, tag, unit attention, code, fields, range, data-out, room) and
-    -- so becomes the last task of the list; no two of the three ranges meet, so all are eligible, and the depth goes from 1 to 3
+    -- each of three commands passes all tests of an arrival (logical unit, tag, unit attention, code, fields, range, data-out,
+    -- room) and so becomes the last task of the list; no two of the three ranges meet, so all are eligible, and the depth goes
+    -- from 1 to 3
     (next (arrives [] (record struck { tasks = low_write ∷ [] }) (refl, refl))
     (next (arrives [] (record struck { tasks = low_write ∷ middle_read ∷ [] }) (refl, refl))
     (next (arrives [] (record struck { tasks = low_write ∷ middle_read ∷ high_write ∷ [] }) (refl, refl))
     -- END takes three turns, read here from the last one to the first, until no task is left
     (next (drained
-    -- third turn: the write of sector 2 alone is there, and it is done: its block is what a read gives, and power may leave the old one
+    -- third turn: the write of sector 2 alone is there, and it is done: its block is what a read gives, and power may leave the
+    -- old one
     (turn_more both_written
     -- second turn: the write of sector 0 is done in the same way; it is the first of the list
     (turn_more (record low_written { tasks = high_write ∷ [] })
-    -- first turn: the read is eligible, since the write before it does not conflict with it; the lowest flaw of its kind in its range is
-    -- at 1, so it ends with MEDIUM ERROR there; it writes nothing, so the sectors stay, and it leaves the list
+    -- first turn: the read is eligible, since the write before it does not conflict with it; the lowest flaw of its kind in its
+    -- range is at 1, so it ends with MEDIUM ERROR there; it writes nothing, so the sectors stay, and it leaves the list
     (turn_more (record struck { tasks = low_write ∷ high_write ∷ [] }) none
     (ended middle_read (inr (refl, inl refl)) (flawed (ranged_read false (over 1 1)) 1 struck.cells _ middle_read refl refl)))
     (ended low_write (inl refl) (done (ranged_write false (over 0 1) (aa ∷ [])) _ low_write refl)))

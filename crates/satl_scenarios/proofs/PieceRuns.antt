@@ -12,7 +12,7 @@ use Rattle.satl_sense.specs.Fixed.{fixed_form}
 use Rattle.satl_line.specs.declared.entry.Entry.{Entry}
 use Rattle.satl_line.specs.Ranged.RangedTask.{ranged_trim}
 use Rattle.satl_direct.specs.Device.{Device}
-use Rattle.satl_direct.specs.Ending.{Ends, EndsGlitched, IsPartlyWritten, task_check}
+use Rattle.satl_direct.specs.Ending.{Ends, EndsWithCrcError, IsPartlyWritten, task_check}
 use Rattle.satl_direct.specs.Run.{depth}
 use Rattle.satl_direct.specs.Senses.{crc_error}
 use Rattle.satl_scenarios.specs.Commands.{written}
@@ -37,7 +37,7 @@ torn : (writes front back : List Pair) (cells : List Cell) (s : Device) (t : Ent
 torn writes front back cells s t split is = record { part = rw (split, is) (part_front s.cells front back); stays = refl }
 
 garbled : (writes front back : List Pair) (cells : List Cell) (left : ℕ) (s : Device) (t : Entry) → writes ≡ front ++ back → cells ≡ whole s.cells front → left + 1 ≡ s.glitches
-    → EndsGlitched writes s t (task_check s t crc_error) (once_glitched cells left s t)
+    → EndsWithCrcError writes s t (task_check s t crc_error) (once_glitched cells left s t)
 garbled writes front back cells left s t split is one = record { answer = refl; part = rw (split, is) (part_front s.cells front back); one_glitch = one; stays = refl }
 
 -- a task that waits alone ends in a turn, with a glitch left

@@ -1,4 +1,5 @@
--- The descriptor form of what a text says, byte by byte: each byte is a function of the same byte of the text, and from byte 7 on of the length there.
+-- The descriptor form of what a text says, byte by byte: each byte is a function of the same byte of the text, and from byte 7
+-- on of the length there.
 use Rattle.std.proofs.Common.{◌≡◌, ℕ, zero, suc, ◌+◌, ◌/◌, ◌%◌, ◌^◌, ◌<◌, ◌≤◌, Bool, true, false, cond, List, [], ◌∷◌, ◌++◌, length, get_or, take, refl, sym, ap, ◌∙◌, subst, arith, inl, inr, get_or-take}
 use Rattle.std.specs.Prelude.{slice_index, ◌==◌, if◌then◌else◌}
 use Rattle.std.specs.Int.{byte_at, w16, w64, to_be_bytes}

@@ -9,8 +9,8 @@ pub const DESCRIPTOR_CODE: u8 = 0x72;
 /// The bits of SENSE KEY in its byte (SPC-4 4.5.2).
 pub const SENSE_KEY: u8 = 0x0F;
 
-/// VALID: INFORMATION says something. It stands beside RESPONSE CODE in the fixed form, and in the information descriptor (SPC-4
-/// 4.5.2.2 and 4.5.3).
+/// VALID: INFORMATION says something. It stands beside RESPONSE CODE in the fixed form, and in the information descriptor
+/// (SPC-4 4.5.2.2 and 4.5.3).
 pub const VALID: u8 = 0x80;
 
 /// SKSV: SENSE KEY SPECIFIC says something (SPC-4 4.5.2.4).

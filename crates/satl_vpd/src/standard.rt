@@ -6,7 +6,8 @@ use crate::text::{Text, characters, is_blank};
 use satl_identify::Identity;
 use satl_identify::words::{MODEL, REVISION};
 
-/// PERIPHERAL QUALIFIER and PERIPHERAL DEVICE TYPE of a direct access block device that is there (SPC-4, standard INQUIRY data).
+/// PERIPHERAL QUALIFIER and PERIPHERAL DEVICE TYPE of a direct access block device that is there (SPC-4, standard INQUIRY
+/// data).
 const BLOCK_DEVICE: u8 = 0x00;
 
 /// The same where there is no unit at the LUN.
