@@ -101,7 +101,7 @@ pub fn task_of(request: &Request, command: Command, queued_trim: bool) -> Entry
         ranges: ranges_of(&command),
         command,
         body: Pages::default(),
-        modes: None,
+        change: None,
         expected: request.expected,
     }
 }

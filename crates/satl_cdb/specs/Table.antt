@@ -1,4 +1,4 @@
--- The table of operation codes.
+-- The table of operation codes (SPC-4, SBC-3 and SAT-3, operation codes; which of them: profile).
 use Rattle.std.specs.Prelude.{ℕ, ◌*◌, Bool, true, false, List, [], ◌∷◌, ◌++◌, Result, slice_index, replicate}
 use Rattle.satl_base.specs.Fields.{bits}
 use Rattle.satl_base.specs.Places.{places}
@@ -57,6 +57,7 @@ table trim =
     ∷ row 0xAF (verify twelve)
     ∷ []
 
--- What the table says of a command descriptor block: the command, or the refusal of its lowest byte that breaks a rule.
+-- What the table says of a command descriptor block: the command, or the refusal of its lowest byte that breaks a rule (SPC-4
+-- 4.3; which fault is told: profile).
 unfoldable pub says : List ℕ → Bool → Result Command Illegal
 says cdb trim = found_says (format_of (table trim) (slice_index cdb 0)) cdb

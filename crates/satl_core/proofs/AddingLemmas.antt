@@ -76,7 +76,7 @@ held_with old new entry body h =
     let same = ap held_pages h.are in
     omega (arith, both, same)
 
-pub kept_with : (identity : Identity) (old new : List Held) (entry : Entry) (body : List Block) → AllByRecursion (IsKept identity) old → length body ≡ entry.blocks + entry_pages entry.command identity.queued_trim → CanTrim identity entry.command entry.ranges.items → IsTask identity.capacity entry.command entry.blocks → entry.kind ≡ kind_of entry.command identity.queued_trim → IfSome entry.modes (IsChangeOf identity) → IsExpectable entry.expected → HasPages old entry body new
+pub kept_with : (identity : Identity) (old new : List Held) (entry : Entry) (body : List Block) → AllByRecursion (IsKept identity) old → length body ≡ entry.blocks + entry_pages entry.command identity.queued_trim → CanTrim identity entry.command entry.ranges.items → IsTask identity.capacity entry.command entry.blocks → entry.kind ≡ kind_of entry.command identity.queued_trim → IfSome entry.change (IsChangeOf identity) → IsExpectable entry.expected → HasPages old entry body new
     → AllByRecursion (IsKept identity) new
 kept_with identity old new entry body all size trims task kind change expected h =
     subst (λ t. AllByRecursion (IsKept identity) t) (sym h.are) (All-append (IsKept identity) old (record { slot = h.slot; entry = record entry { body = body } } ∷ []) all (record { pages = size; trims = trims; task = task; kind = kind; change = change; expected = expected }, tt))
@@ -138,7 +138,7 @@ whole_data capacity n count c body t long =
 
 -- a task with other data-out
 abbrev made : Entry → List Block → List Range → Option ModeChange → Entry
-made t body ranges change = record t { body = body; ranges = record { items = ranges }; modes = change }
+made t body ranges change = record t { body = body; ranges = record { items = ranges }; change = change }
 
 -- what a task keeps of the data-out beside its pages
 same_kept : (capacity n : ℕ) (c : Command) (count : ℕ) (body : List Block) → needed c ≤ 512 * length (take count body) → HasList c (take count body) capacity → IsTask capacity c n → ((asks c).ranges (take count body) ≡ (asks c).ranges body) × ((asks c).change (take count body) ≡ (asks c).change body)

@@ -96,10 +96,10 @@ selected_so true modes wanted attentions identity started tasks d t reply new e 
 selected_so false modes wanted attentions identity started tasks d t reply new e = e
 
 selected_turn : (identity : Identity) (modes : Modes) (started ten : Bool) (size : ℕ) (attentions : List (List Attention)) (entry : Entry) (others : List Entry) (d d' : DriveState) (ending : Ending) → d.cache ≡ modes.wce
-    → IsTuned (wanted_by modes entry.modes).wce (not (wanted_by modes entry.modes).dra) d d' → ending ≡ endings.Good
-    → EndsOne (seen identity modes started attentions (task_of (record entry { command = cdbs.ModeSelect ten size }) ∷ others) d) (ended_reply (record entry { command = cdbs.ModeSelect ten size }) ending modes.d_sense) (seen identity (wanted_by modes entry.modes) started (with_modes_changed modes (wanted_by modes entry.modes) entry.nexus attentions) others d')
+    → IsTuned (wanted_by modes entry.change).wce (not (wanted_by modes entry.change).dra) d d' → ending ≡ endings.Good
+    → EndsOne (seen identity modes started attentions (task_of (record entry { command = cdbs.ModeSelect ten size }) ∷ others) d) (ended_reply (record entry { command = cdbs.ModeSelect ten size }) ending modes.d_sense) (seen identity (wanted_by modes entry.change) started (with_modes_changed modes (wanted_by modes entry.change) entry.nexus attentions) others d')
 selected_turn identity modes started ten size attentions entry others d d' ending cache x good =
-    let wanted : Modes = wanted_by modes entry.modes in
+    let wanted : Modes = wanted_by modes entry.change in
     left_turn identity modes wanted started started attentions (with_modes_changed modes wanted entry.nexus attentions) (record entry { command = cdbs.ModeSelect ten size }) others d d' (settled_if (modes.wce && not wanted.wce) d.cells) d.active ending (and_right (not started) false refl)
     (λ reply new e. selected_so (modes.wce && not wanted.wce) modes wanted attentions identity started (task_of (record entry { command = cdbs.ModeSelect ten size }) ∷ others) d (task_of (record entry { command = cdbs.ModeSelect ten size })) reply new e)
     x.was_up (subst (λ b. Loses (settled_if (b && not wanted.wce) d.cells) d'.cells) cache x.lost) (ap (λ (y : DriveState). y.active) x.stays) (ap (λ (y : DriveState). y.down) x.stays) (ap (λ (y : DriveState). y.glitches) x.stays) good refl
@@ -145,10 +145,10 @@ ended_seen identity modes wanted started attentions entry ending others d =
 
 -- what the drive did for a task ends it
 task_turn : (identity : Identity) (modes : Modes) (started : Bool) (attentions : List (List Attention)) (entry : Entry) (left : Entry) (others : List Entry) (d d' : DriveState) (ending : Ending) → IsKeptEntry identity entry → IsSetBy modes d → TellsOf identity.bytes d
-    → (not started && (asks entry.command).needs_started) ≡ false → IfSome (alone_of entry.command) (λ alone. CanCarry alone entry d) → DoneAlone (wanted_by modes entry.modes) ending (task_on entry d) (task_on left d')
-    → EndsOne (seen identity modes started attentions (task_of entry ∷ others) d) (ended_reply (record entry { body = left.body }) ending modes.d_sense) (ended_seen identity modes (wanted_by modes entry.modes) started attentions entry ending others d')
+    → (not started && (asks entry.command).needs_started) ≡ false → IfSome (alone_of entry.command) (λ alone. CanCarry alone entry d) → DoneAlone (wanted_by modes entry.change) ending (task_on entry d) (task_on left d')
+    → EndsOne (seen identity modes started attentions (task_of entry ∷ others) d) (ended_reply (record entry { body = left.body }) ending modes.d_sense) (ended_seen identity modes (wanted_by modes entry.change) started attentions entry ending others d')
 task_turn identity modes started attentions entry left others d d' ending kept set told ready has x =
-    of_task (λ c. (not started && (asks c).needs_started) ≡ false → IfSome (alone_of c) (λ alone. CanCarry alone entry d) → DoneAlone (wanted_by modes entry.modes) ending (task_on (record entry { command = c }) d) (task_on left d') → Ends c) identity.capacity entry.blocks entry.command
+    of_task (λ c. (not started && (asks c).needs_started) ≡ false → IfSome (alone_of c) (λ alone. CanCarry alone entry d) → DoneAlone (wanted_by modes entry.change) ending (task_on (record entry { command = c }) d) (task_on left d') → Ends c) identity.capacity entry.blocks entry.command
     (λ form lba count fua t ready has x. absurd x)
     (λ form lba count fua t ready has x. absurd x)
     (λ form lba count none ready has x. bare (cdbs.Flush form lba count) refl refl (bare_turn identity modes started started attentions (record entry { command = cdbs.Flush form lba count }) others d d' (map settle d.cells) d.active ending ready (λ reply new e. e) x.1 x.0 refl))
@@ -157,11 +157,11 @@ task_turn identity modes started attentions entry left others d d' ending kept s
     (switched_turn identity modes started start no_flush attentions entry others d d' ending x.1 x.0)))
     (λ ten size none ready has x. bare (cdbs.ModeSelect ten size) refl refl
     (subst (λ e. EndsOne (first (cdbs.ModeSelect ten size)) (ended_reply (record entry { command = cdbs.ModeSelect ten size }) ending modes.d_sense)
-    (seen identity (where_done e (wanted_by modes entry.modes) modes) started (with_modes_changed modes (where_done e (wanted_by modes entry.modes) modes) entry.nexus attentions) others d')) (sym x.0)
+    (seen identity (where_done e (wanted_by modes entry.change) modes) started (with_modes_changed modes (where_done e (wanted_by modes entry.change) modes) entry.nexus attentions) others d')) (sym x.0)
     (selected_turn identity modes started ten size attentions entry others d d' ending set.cache x.1 x.0)))
     (λ form lba count t ready has x. bare (cdbs.Verify form lba count false) refl refl (check_turn identity modes started attentions entry others d d' form lba count ending ready x))
     (λ form lba count t ready has x. bare (cdbs.Verify form lba count true) refl refl (compare_turn identity modes started attentions entry others d d' form lba count ending ready x))
-    (λ form lba count unmap. elim unmap as (λ b. (entry.blocks ≡ 1) × FitsCapacity identity.capacity lba count → (not started && (asks (cdbs.WriteSame form lba count b)).needs_started) ≡ false → IfSome (alone_of (cdbs.WriteSame form lba count b)) (λ alone. CanCarry alone entry d) → DoneAlone (wanted_by modes entry.modes) ending (task_on (record entry { command = cdbs.WriteSame form lba count b }) d) (task_on left d') → Ends (cdbs.WriteSame form lba count b)) [
+    (λ form lba count unmap. elim unmap as (λ b. (entry.blocks ≡ 1) × FitsCapacity identity.capacity lba count → (not started && (asks (cdbs.WriteSame form lba count b)).needs_started) ≡ false → IfSome (alone_of (cdbs.WriteSame form lba count b)) (λ alone. CanCarry alone entry d) → DoneAlone (wanted_by modes entry.change) ending (task_on (record entry { command = cdbs.WriteSame form lba count b }) d) (task_on left d') → Ends (cdbs.WriteSame form lba count b)) [
       | true ↦ λ t ready has x. bare (cdbs.WriteSame form lba count true) refl refl (zero_turn identity modes started attentions entry others d d' set.cache form lba count ending ready x)
       | false ↦ λ t ready has x. bare (cdbs.WriteSame form lba count false) refl refl (same_turn identity modes started attentions entry others d d' set.cache form lba count ending ready has.0 x)
     ])
@@ -174,7 +174,7 @@ task_turn identity modes started attentions entry left others d d' ending kept s
     first c = seen identity modes started attentions (task_of (record entry { command = c }) ∷ others) d
 
     after : Command → Device
-    after c = ended_seen identity modes (wanted_by modes entry.modes) started attentions (record entry { command = c }) ending others d'
+    after c = ended_seen identity modes (wanted_by modes entry.change) started attentions (record entry { command = c }) ending others d'
 
     Ends : Command → Type 0
     Ends c = EndsOne (first c) (ended_reply (record entry { command = c; body = left.body }) ending modes.d_sense) (after c)
@@ -238,19 +238,19 @@ unasked_turn identity modes wanted started attentions entry taken others d d' se
 -- a unit that is stopped, or the drive
 up_turn : (stopped : Bool) (identity : Identity) (modes : Modes) (started : Bool) (attentions : List (List Attention)) (entry : Entry) (left : Entry) (others : List Entry) (d d' : DriveState) (ending : Ending)
     → IsKeptEntry identity entry → IsSetBy modes d → TellsOf identity.bytes d → IfSome (alone_of entry.command) (λ alone. CanCarry alone entry d) → (not started && (asks entry.command).needs_started) ≡ stopped
-    → MatchBool stopped (IsUnasked not_ready d ending d') (DoneAlone (wanted_by modes entry.modes) ending (task_on entry d) (task_on left d'))
-    → EndsOne (seen identity modes started attentions (task_of entry ∷ others) d) (ended_reply (record entry { body = left.body }) ending modes.d_sense) (ended_seen identity modes (wanted_by modes entry.modes) started attentions entry ending others d')
+    → MatchBool stopped (IsUnasked not_ready d ending d') (DoneAlone (wanted_by modes entry.change) ending (task_on entry d) (task_on left d'))
+    → EndsOne (seen identity modes started attentions (task_of entry ∷ others) d) (ended_reply (record entry { body = left.body }) ending modes.d_sense) (ended_seen identity modes (wanted_by modes entry.change) started attentions entry ending others d')
 up_turn true identity modes started attentions entry left others d d' ending kept set told has stopped x =
-    unasked_turn identity modes (wanted_by modes entry.modes) started attentions entry left.body others d d' not_ready ending (λ reply mid e. ends_stopped _ _ _ _ set.up stopped e) x kept
+    unasked_turn identity modes (wanted_by modes entry.change) started attentions entry left.body others d d' not_ready ending (λ reply mid e. ends_stopped _ _ _ _ set.up stopped e) x kept
 up_turn false identity modes started attentions entry left others d d' ending kept set told has ready x = task_turn identity modes started attentions entry left others d d' ending kept set told ready has x
 
 -- whichever decides, a lost link, a unit that is stopped, or the drive
 ended_turn : (identity : Identity) (modes : Modes) (down started : Bool) (attentions : List (List Attention)) (entry : Entry) (left : Entry) (others : List Entry) (d d' : DriveState) (ending : Ending) → down ≡ d.down
     → IsKeptEntry identity entry → (down ≡ false → IsSetBy modes d) → TellsOf identity.bytes d
-    → IfSome (alone_of entry.command) (λ alone. CanCarry alone entry d) → TaskEnds (record { down = down; started = started; wanted = wanted_by modes entry.modes }) ending (task_on entry d) (task_on left d')
-    → EndsOne (seen identity modes started attentions (task_of entry ∷ others) d) (ended_reply (record entry { body = left.body }) ending modes.d_sense) (ended_seen identity modes (wanted_by modes entry.modes) started attentions entry ending others d')
+    → IfSome (alone_of entry.command) (λ alone. CanCarry alone entry d) → TaskEnds (record { down = down; started = started; wanted = wanted_by modes entry.change }) ending (task_on entry d) (task_on left d')
+    → EndsOne (seen identity modes started attentions (task_of entry ∷ others) d) (ended_reply (record entry { body = left.body }) ending modes.d_sense) (ended_seen identity modes (wanted_by modes entry.change) started attentions entry ending others d')
 ended_turn identity modes true started attentions entry left others d d' ending mark kept set told has x =
-    unasked_turn identity modes (wanted_by modes entry.modes) started attentions entry left.body others d d' link_lost ending (λ reply mid e. ends_down _ _ _ _ (sym mark) e) x kept
+    unasked_turn identity modes (wanted_by modes entry.change) started attentions entry left.body others d d' link_lost ending (λ reply mid e. ends_down _ _ _ _ (sym mark) e) x kept
 ended_turn identity modes false started attentions entry left others d d' ending mark kept set told has x =
     up_turn (not started && (asks entry.command).needs_started) identity modes started attentions entry left others d d' ending kept (set refl) told has refl x
 
@@ -277,22 +277,22 @@ module _ (l : Layer) (rest : List Held) (entry : Entry) (d d' : DriveState) (kep
   set_by_modes : l.down ≡ false → IsSetBy l.modes d
   set_by_modes up = record { up = sym agrees.mark ∙ up; cache = agrees.cache up; look = agrees.look up }
 
-  pub first_ends : IfSome (alone_of entry.command) (λ alone. CanCarry alone entry d) → (ending : Ending) (left : Entry) (started' : Bool) (wanted modes' : Modes) (posting : Option Posting) (attentions' : List (List Attention)) → wanted ≡ wanted_by l.modes entry.modes → TaskEnds (record { down = l.down; started = l.started; wanted = wanted }) ending (task_on entry d) (task_on left d')
+  pub first_ends : IfSome (alone_of entry.command) (λ alone. CanCarry alone entry d) → (ending : Ending) (left : Entry) (started' : Bool) (wanted modes' : Modes) (posting : Option Posting) (attentions' : List (List Attention)) → wanted ≡ wanted_by l.modes entry.change → TaskEnds (record { down = l.down; started = l.started; wanted = wanted }) ending (task_on entry d) (task_on left d')
       → started' ≡ started_after entry.command ending l.started → modes' ≡ modes_after entry.command ending l.modes wanted → posting ≡ change_posting entry.command l.modes modes' entry.nexus → attentions' ≡ once_posted posting rest l.attentions
       → EndsOne (seen l.identity l.modes l.started l.attentions (map task_of (entries_of l.tasks)) d) (ended_reply (record entry { body = left.body }) ending l.modes.d_sense) (seen l.identity modes' started' attentions' (map task_of (entries_of rest)) d')
   first_ends carry ending left started' wanted modes' posting attentions' wants ends after changed posts told =
       subst (EndsOne (seen l.identity l.modes l.started l.attentions (map task_of (entries_of l.tasks)) d) (ended_reply (record entry { body = left.body }) ending l.modes.d_sense)) (sym same)
-      (subst (λ ts. EndsOne (seen l.identity l.modes l.started l.attentions ts d) (ended_reply (record entry { body = left.body }) ending l.modes.d_sense) (ended_seen l.identity l.modes (wanted_by l.modes entry.modes) l.started l.attentions entry ending (map task_of (entries_of rest)) d')) (sym all)
+      (subst (λ ts. EndsOne (seen l.identity l.modes l.started l.attentions ts d) (ended_reply (record entry { body = left.body }) ending l.modes.d_sense) (ended_seen l.identity l.modes (wanted_by l.modes entry.change) l.started l.attentions entry ending (map task_of (entries_of rest)) d')) (sym all)
       (ended_turn l.identity l.modes l.down l.started l.attentions entry left (map task_of (entries_of rest)) d d' ending agrees.mark here set_by_modes agrees.told carry (subst (λ w. TaskEnds (record { down = l.down; started = l.started; wanted = w }) ending (task_on entry d) (task_on left d')) wants ends)))
     where
-      set : modes' ≡ modes_after entry.command ending l.modes (wanted_by l.modes entry.modes)
+      set : modes' ≡ modes_after entry.command ending l.modes (wanted_by l.modes entry.change)
       set = changed ∙ ap (modes_after entry.command ending l.modes) wants
 
-      listed : attentions' ≡ told_after entry.command l.modes (modes_after entry.command ending l.modes (wanted_by l.modes entry.modes)) entry.nexus l.attentions
+      listed : attentions' ≡ told_after entry.command l.modes (modes_after entry.command ending l.modes (wanted_by l.modes entry.change)) entry.nexus l.attentions
       listed = told ∙ (ap (λ p. once_posted p rest l.attentions) posts ∙ (posted_changes entry.command l.modes modes' entry.nexus rest l.attentions ∙ ap (λ m. told_after entry.command l.modes m entry.nexus l.attentions) set))
 
-      same : seen l.identity modes' started' attentions' (map task_of (entries_of rest)) d' ≡ ended_seen l.identity l.modes (wanted_by l.modes entry.modes) l.started l.attentions entry ending (map task_of (entries_of rest)) d'
-      same = ap (λ m. seen l.identity m started' attentions' (map task_of (entries_of rest)) d') set ∙ (ap (λ b. seen l.identity (modes_after entry.command ending l.modes (wanted_by l.modes entry.modes)) b attentions' (map task_of (entries_of rest)) d') after ∙ ap (λ a. seen l.identity (modes_after entry.command ending l.modes (wanted_by l.modes entry.modes)) (started_after entry.command ending l.started) a (map task_of (entries_of rest)) d') listed)
+      same : seen l.identity modes' started' attentions' (map task_of (entries_of rest)) d' ≡ ended_seen l.identity l.modes (wanted_by l.modes entry.change) l.started l.attentions entry ending (map task_of (entries_of rest)) d'
+      same = ap (λ m. seen l.identity m started' attentions' (map task_of (entries_of rest)) d') set ∙ (ap (λ b. seen l.identity (modes_after entry.command ending l.modes (wanted_by l.modes entry.change)) b attentions' (map task_of (entries_of rest)) d') after ∙ ap (λ a. seen l.identity (modes_after entry.command ending l.modes (wanted_by l.modes entry.change)) (started_after entry.command ending l.started) a (map task_of (entries_of rest)) d') listed)
 
   pub first_loses : (ending : Ending) (given pushed answers : List Reply) (reply : Reply) (left : List Held) → left ≡ [] → IsLostInTask l.down l.started entry d d' → given ≡ [] → pushed ≡ given ++ reply ∷ []
       → answers ≡ pushed ++ core.lost_replies l.modes.d_sense rest → reply ≡ ended_reply entry ending l.modes.d_sense → ending ≡ endings.Check link_lost

@@ -99,7 +99,7 @@ pub record IsKept (identity : Identity) (h : Held) : Type 0 where
   pub trims : CanTrim identity h.entry.command h.entry.ranges.items
   pub task : IsTask identity.capacity h.entry.command h.entry.blocks
   pub kind : h.entry.kind ≡ kind_of h.entry.command identity.queued_trim
-  pub change : IfSome h.entry.modes (IsChangeOf identity)
+  pub change : IfSome h.entry.change (IsChangeOf identity)
   pub expected : IsExpectable h.entry.expected
 
 -- the direct device that the layer and its drive are (profile)

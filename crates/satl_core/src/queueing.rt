@@ -233,7 +233,7 @@ impl Satl {
         let command = task.command;
         let nexus = task.nexus;
         let descriptor = self.modes.d_sense;
-        let wanted = wanted_by(&self.modes, &task.modes);
+        let wanted = wanted_by(&self.modes, &task.change);
         match run_task(
             self.down,
             self.started,

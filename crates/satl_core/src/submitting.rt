@@ -309,7 +309,7 @@ pub fn put_task(request: &Request, command: Command, identity: &Identity, task: 
     task.command = command;
     task.body = Pages::default();
     put_ranges(&command, &request.body, identity.capacity, &mut task.ranges);
-    task.modes = change_of(&command, &request.body);
+    task.change = change_of(&command, &request.body);
     task.expected = request.expected;
 }
 

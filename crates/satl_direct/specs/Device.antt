@@ -11,7 +11,9 @@
 -- written in part  each pair, in order, is written or left out (`Part`)
 -- written back     a loss of power can leave only the block that a read gives (`settle`); a sector is sound where that block is
 --                  among those that a loss of power can leave
--- ranged task      a READ, a WRITE or a queued UNMAP; all others are barriers
+-- ranged task      a READ, a WRITE or a queued UNMAP; all others are barriers. A `RangedTask` is the form read, write or trim;
+--                  the barriers that trim, an UNMAP that is not queued and a WRITE SAME that unmaps, have it too. A trim
+--                  writes a block of zeros at each address
 -- conflict         of two tasks, where one is ORDERED or a barrier, or where their ranges meet and one writes
 -- eligible         of a task, where it conflicts with no earlier one
 -- piece            64 blocks
@@ -32,7 +34,7 @@ use Rattle.satl_line.specs.declared.entry.Entry.{Entry}
 -- conditions of each nexus, from nexus 0 on, in the order of report; how many transfers may still end with a CRC error; and
 -- what its drive says of itself. A task (`Entry`) has its nexus, tag, kind (ranged, and whether it writes, or a barrier) and
 -- attribute; its command; how many blocks it holds room for, of data-out or of data-in (`blocks`); its data-out (`body`; room
--- for data-in is not seen here); its ranges; what a MODE SELECT changes (`modes`); and how many bytes of data-in its host
+-- for data-in is not seen here); its ranges; what a MODE SELECT changes (`change`); and how many bytes of data-in its host
 -- takes, where it says so (`expected`) (SAM-5, task set and unit attention conditions; SBC-3; glitches and lost links:
 -- profile)
 pub record Device : Type 0 where

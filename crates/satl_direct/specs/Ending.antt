@@ -57,9 +57,8 @@ pub record IsTaskDone (after : Device) (t : Entry) (reply : Reply) (new : Device
   pub answer : reply ≡ task_reply t Good [] []
   pub stays : new ≡ record after { tasks = without t after.tasks }
 
--- A `RangedTask` is a read, a write or a trim. Ranged tasks are of this form, and so are the barriers that trim: an UNMAP that
--- is not queued and a WRITE SAME that unmaps. They read and change a surface (`Surface`): the sectors and the glitches; a
--- medium (`Medium`) has also the settings, the power mode and the IDENTIFY data.
+-- A read, a write or a trim (`RangedTask`) reads and changes a surface (`Surface`): the sectors and the glitches; a medium
+-- (`Medium`) has also the settings, the power mode and the IDENTIFY data.
 
 -- the medium error of a task at a flawed address (SPC-4 4.5.6)
 abbrev pub medium_error : RangedTask → ℕ → Sense
@@ -147,7 +146,7 @@ EndsCompared range s t reply new =
 abbrev pub settled : Device → Device
 settled s = record s { cells = map settle s.cells }
 
--- every sector is written back where a condition holds, and else the device stays as it is (SBC-3, SYNCHRONIZE CACHE)
+-- every sector is written back where this flag is true, and else the device stays as it is (SBC-3, SYNCHRONIZE CACHE)
 abbrev pub device_settled_if : Bool → Device → Device
 device_settled_if settles s = if settles then settled s else s
 
@@ -159,7 +158,7 @@ after_start_stop true no_flush s = record s { active = true; started = true }
 
 -- the mode values after a MODE SELECT (SPC-4, MODE SELECT commands)
 abbrev pub selected : Device → Entry → Modes
-selected s t = wanted_by s.modes t.modes
+selected s t = wanted_by s.modes t.change
 
 -- MODE SELECT: the mode values are those selected; all is written back where that turns WCE off; and where a value has changed,
 -- MODE PARAMETERS CHANGED is posted for the other nexuses (SPC-4, MODE SELECT commands; SBC-3 6.4.5)

@@ -16,7 +16,8 @@ use Rattle.satl_direct.specs.Device.{Device}
 use Rattle.satl_direct.specs.Ending.{device_medium, same_pairs}
 use Rattle.satl_direct.specs.Tasks.{pass_of}
 
--- what a command of a task writes, through the cache where WCE is on and FUA is 0 (SBC-3 5, 6.4.5; SAT-3 12.2)
+-- what a command of a task writes, through the cache where WCE is on and FUA is 0; a trim (an UNMAP, queued or not, or a WRITE
+-- SAME that unmaps) writes a block of zeros at each address (SBC-3 5, 6.4.5; SAT-3 12.2; zeros: profile)
 abbrev pub written_by : Command → Device → Entry → List Pair
 written_by (commands.Write form lba count fua) s t = written_pairs s.modes.wce (ranged_write fua (over lba count) t.body)
 written_by (commands.WriteSame form lba count false) s t = same_pairs lba count t.body s.modes.wce

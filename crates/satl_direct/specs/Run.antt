@@ -73,8 +73,8 @@ Does (frames.Request r) s answers new deep =
     (replies : List Reply) × (answers ≡ map replied replies) × Around (MayLose (Arrives r)) s replies new × (deep ≡ depth new)
 Does (frames.Manage m) s answers new deep = ManagedAnswers m s answers new × (deep ≡ depth new)
 Does (frames.Turn n) s answers new deep =
-    (replies : List Reply) × (turned : ℕ) × (answers ≡ map replied replies) × TurnsOf n s replies new turned
-    × (deep ≡ max turned (depth new))
+    (replies : List Reply) × (deepest : ℕ) × (answers ≡ map replied replies) × TurnsOf n s replies new deepest
+    × (deep ≡ max deepest (depth new))
 Does (frames.Bench event) s answers new deep =
     (replies : List Reply) × (answers ≡ map replied replies) × Around (Happens event) s replies new × (deep ≡ depth new)
 Does frames.End s answers new deep =
@@ -99,9 +99,9 @@ losses_in _ old new = losses_of old new
 pub data RunDeep (first : Device) : List Frame → List (List Answer) → ℕ → Device → ℕ → Type 0 where
   start : {s : Device} → Quiet first s → RunDeep first [] [] 0 s 0
   step : {events : List Frame} {groups : List (List Answer)} {losses deep : ℕ} {s new : Device} (event : Frame)
-      (now : List Answer) (d : ℕ)
-      → RunDeep first events groups losses s deep → Does event s now new d
-      → RunDeep first (events ++ event ∷ []) (groups ++ now ∷ []) (losses + losses_in event s new) new (max deep d)
+      (now : List Answer) (deep_now : ℕ)
+      → RunDeep first events groups losses s deep → Does event s now new deep_now
+      → RunDeep first (events ++ event ∷ []) (groups ++ now ∷ []) (losses + losses_in event s new) new (max deep deep_now)
 
 -- the groups one after the other (profile)
 abbrev pub joined : List (List Answer) → List Answer

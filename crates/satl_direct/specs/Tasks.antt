@@ -1,7 +1,9 @@
 -- What commands ask of the device, and the tasks that they become (SBC-3 5, SPC-4 6, SAT-3). `Illegal` is a refusal: its
 -- additional sense codes, the byte at fault where there is one, and whether that byte is of the CDB or of the data-out; what is
 -- named with `fault` gives one, or none. The `form` of a command is the length of its CDB; `form_of` is the layout of an ATA
--- PASS-THROUGH of 12 or 16 bytes.
+-- PASS-THROUGH of 12 or 16 bytes. `Flush` is SYNCHRONIZE CACHE; the last field of a VERIFY is whether it compares (BYTCHK),
+-- that of a WRITE SAME its UNMAP bit; `ten` is whether a MODE command has 10 bytes, `long_lba` LLBAA, `no_descriptor` DBD,
+-- `control` PC; `page` of an INQUIRY is None where EVPD is 0.
 use Rattle.std.specs.Prelude.{ℕ, ◌*◌, ◌==◌, ◌&&◌, not, nat_lt, Bool, true, false, if◌then◌else◌, List, [], ◌∷◌, length, take, get_or, Option, Some, None, Result, Ok, Err}
 use Rattle.std.specs.List.{sum_by}
 use Rattle.satl_base.specs.declared.block.Block.{Block}
@@ -73,18 +75,18 @@ over_range lba count = record nothing { range = over lba count; needs_started = 
 -- a MODE SELECT: its list is judged, and what it sets is its change; of the list itself nothing is kept (SPC-4, MODE SELECT
 -- commands)
 abbrev pub asks_select : Bool → ℕ → Asks
-asks_select ten length = record nothing {
-  needed = length;
-  data_fault = λ identity modes body. select_fault identity modes body length ten;
-  change = λ body. Some (change_in body length ten);
+asks_select ten size = record nothing {
+  needed = size;
+  data_fault = λ identity modes body. select_fault identity modes body size ten;
+  change = λ body. Some (change_in body size ten);
 }
 
 -- an UNMAP: its list is empty, or has at least its header of 8 bytes and is judged (SBC-3 5.28)
 abbrev pub asks_unmap : ℕ → Asks
-asks_unmap length = record nothing {
-  length_fault = if not (length == 0) && nat_lt length 8 then Some list_length_error else None;
-  needed = length;
-  data_fault = λ identity modes body. if length == 0 then None else list_fault body length identity.capacity;
+asks_unmap size = record nothing {
+  length_fault = if not (size == 0) && nat_lt size 8 then Some list_length_error else None;
+  needed = size;
+  data_fault = λ identity modes body. if size == 0 then None else list_fault body size identity.capacity;
   ranges = ranges_of;
   needs_started = true;
 }
@@ -119,7 +121,7 @@ asks commands.TestUnitReady = nothing
 asks (commands.RequestSense descriptor alloc) = nothing
 asks (commands.Inquiry page alloc) = nothing
 asks (commands.ModeSense ten long_lba no_descriptor control page alloc) = nothing
-asks (commands.ModeSelect ten length) = asks_select ten length
+asks (commands.ModeSelect ten size) = asks_select ten size
 asks (commands.StartStop start no_flush) = nothing
 asks commands.ReadCapacity10 = nothing
 asks (commands.ReadCapacity16 alloc) = nothing
@@ -144,7 +146,7 @@ asks (commands.WriteSame form lba count true) =
       held = 1;
       kept = λ body. body;
     }
-asks (commands.Unmap length) = asks_unmap length
+asks (commands.Unmap size) = asks_unmap size
 asks (commands.Pass cdb) = asks_through cdb (pass_of cdb)
 
 -- the range that a command goes over (SBC-3 5)
@@ -188,7 +190,7 @@ task_for queued_trim r command = record {
   command = command;
   body = data_out_kept command (take (held_blocks command) r.body);
   ranges = record { items = (asks command).ranges r.body };
-  modes = (asks command).change r.body;
+  change = (asks command).change r.body;
   expected = r.expected;
 }
 

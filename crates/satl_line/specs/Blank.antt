@@ -15,6 +15,6 @@ no_entry = record {
   command = TestUnitReady;
   body = [];
   ranges = record { items = [] };
-  modes = None;
+  change = None;
   expected = None;
 }

@@ -84,7 +84,7 @@ fn blank() -> Entry
         command: Command::TestUnitReady,
         body: Pages::default(),
         ranges: ArrayVec::new(),
-        modes: None,
+        change: None,
         expected: None,
     }
 }

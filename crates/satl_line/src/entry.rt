@@ -53,7 +53,7 @@ pub struct Entry {
     /// The range of a READ or WRITE, the ranges of an UNMAP; none for all others.
     pub ranges: ArrayVec<Range, MOST_RANGES>,
     /// What a MODE SELECT changes.
-    pub modes: Option<ModeChange>,
+    pub change: Option<ModeChange>,
     /// How many bytes of data-in the host takes, where it said so.
     pub expected: Option<u32>,
 }

@@ -91,7 +91,7 @@ both_arrive =
 
 pub run_cut : CanBeCut one_turn_left
 run_cut =
-    last (Turn 3) _ (subst (λ groups. RunDeep arrived.first (events_of arrived) groups 0 arrived.last _) both_arrive.groups both_arrive.run.run)
+    last (Turn 3) _ (subst (λ groups. RunDeep arrived.first (events_of arrived) groups 0 arrived.last both_arrive.run.deep) both_arrive.groups both_arrive.run.run)
     (does_some (record {
       count = 1;
       some = omega arith;

@@ -1,4 +1,4 @@
--- A set of conditions as a flag for each.
+-- A set of conditions as a flag for each (SAM-5 5.14; the flags: profile).
 use Rattle.std.specs.Prelude.{Bool, List, filter}
 use Rattle.satl_unit.specs.declared.attention.Attention.{Attention}
 use Rattle.satl_unit.specs.declared.attention.Attention.TheVariants.{PowerOn, UnitReset, NexusLoss, Cleared, ModeChanged}
