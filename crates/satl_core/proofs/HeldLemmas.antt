@@ -40,7 +40,7 @@ pub record IsKeptEntry (identity : Identity) (e : Entry) : Type 0 where
   pub trims : CanTrim identity e.command e.ranges.items
   pub task : IsTask identity.capacity e.command e.blocks
   pub kind : e.kind ≡ kind_of e.command identity.queued_trim
-  pub change : IfSome e.modes (IsChangeOf identity)
+  pub change : IfSome e.change (IsChangeOf identity)
   pub expected : IsExpectable e.expected
 
 -- the first task is this one, and the others are these

@@ -82,7 +82,7 @@ invariant_of-self-2 c =
           (subst (λ (e : Entry). CanTrim c.self.inside.identity e.command e.ranges.items) (sym task) (can_trim c.self.inside.identity c.args.request c.args.command (held_blocks c.args.command) c.self.invariant.identity_is transfer (subst (λ (l : Layer). HasList c.args.command c.args.request.body l.identity.capacity) (sym c.self.view_is) c.requires.list) (subst (λ (l : Layer). trims c.args.command ≡ true → l.identity.trim ≡ true) (sym c.self.view_is) c.requires.trims)))
           (subst (λ (e : Entry). IsTask c.self.inside.identity.capacity e.command e.blocks) (sym task) transfer)
           (subst (λ (e : Entry). e.kind ≡ kind_of e.command c.self.inside.identity.queued_trim) (sym task) refl)
-          (subst (λ (e : Entry). IfSome e.modes (IsChangeOf c.self.inside.identity)) (sym task) (subst (λ (l : Layer). IfSome ((asks c.args.command).change c.args.request.body) (IsChangeOf l.identity)) (sym c.self.view_is) c.requires.change))
+          (subst (λ (e : Entry). IfSome e.change (IsChangeOf c.self.inside.identity)) (sym task) (subst (λ (l : Layer). IfSome ((asks c.args.command).change c.args.request.body) (IsChangeOf l.identity)) (sym c.self.view_is) c.requires.change))
           (subst (λ (e : Entry). IsExpectable e.expected) (sym task) c.requires.can.expected) has;
       identity_is = c.self.invariant.identity_is;
     }

@@ -64,8 +64,8 @@ run_task-requires-clause-may g c =
     let kept = both_kept g (goal.at.run_task-requires-clause-may g c).After-entry_mut-task in
     let noted = has_as_noted _ (g.D.Drive.state c.args.drive.now) tied.agrees in
     record {
-      cache = wanted_cache c.self.inside.identity c.self.inside.modes c.wanted_by-wanted.result c.entry_mut-task.result.now.modes _ noted.cache c.wanted_by-wanted.ensures tied.agrees.valid.modes kept.0.change;
-      look = wanted_look c.self.inside.identity c.self.inside.modes c.wanted_by-wanted.result c.entry_mut-task.result.now.modes _ noted.look c.wanted_by-wanted.ensures tied.agrees.valid.modes kept.0.change;
+      cache = wanted_cache c.self.inside.identity c.self.inside.modes c.wanted_by-wanted.result c.entry_mut-task.result.now.change _ noted.cache c.wanted_by-wanted.ensures tied.agrees.valid.modes kept.0.change;
+      look = wanted_look c.self.inside.identity c.self.inside.modes c.wanted_by-wanted.result c.entry_mut-task.result.now.change _ noted.look c.wanted_by-wanted.ensures tied.agrees.valid.modes kept.0.change;
     }
 
 pub run_task-requires-clause-carry : goal.run_task-requires-clause-carry
