@@ -15,10 +15,8 @@ use Rattle.satl_line.specs.Ranged.RangedTask.{ranged_read}
 use Rattle.satl_direct.specs.Device.{Device}
 use Rattle.satl_direct.specs.Quiet.{Quiet}
 use Rattle.satl_direct.specs.Run.{RunDeep}
-use Rattle.satl_direct.specs.Run.DoesInPart.{does_some}
-use Rattle.satl_direct.specs.Run.RunInPart.{last}
 use Rattle.satl_direct.specs.Run.TurnsOf.{none}
-use Rattle.satl_scenarios.specs.Scenario.{CanBeCut, CanHappen, Scenario, events_of, silent}
+use Rattle.satl_scenarios.specs.Scenario.{CanBeCut, CanHappen, Scenario, events_of, groups_of, silent}
 use Rattle.satl_scenarios.specs.Waiting.{aborted_half_done, overlapped_reads, full, one_too_many, one_turn_left}
 use Rattle.satl_scenarios.specs.Devices.{aa, never_written, device, zeros}
 use Rattle.satl_scenarios.specs.Requests.{read_10, task}
@@ -90,14 +88,25 @@ both_arrive =
     ends_here))
 
 pub run_cut : CanBeCut one_turn_left
-run_cut =
-    last (Turn 3) _ (subst (λ groups. RunDeep arrived.first (events_of arrived) groups 0 arrived.last both_arrive.run.deep) both_arrive.groups both_arrive.run.run)
-    (does_some (record {
-      count = 1;
-      some = omega arith;
-      asked = omega arith;
-      replies = _;
-      deep = _;
-      turns = turn_more one_turn_left.last none (ended low_read (inl refl) (done (ranged_read false (over 0 1)) arrived.last low_read refl));
-      answer = refl;
-    }))
+run_cut = record {
+  earlier = events_of arrived;
+  event = Turn 3;
+  events = refl;
+  groups = groups_of arrived;
+  answers = _;
+  all_groups = refl;
+  lost = 0;
+  deep = both_arrive.run.deep;
+  mid = arrived.last;
+  run = subst (λ groups. RunDeep arrived.first (events_of arrived) groups 0 arrived.last both_arrive.run.deep) both_arrive.groups both_arrive.run.run;
+  short = record {
+    count = 1;
+    some = omega arith;
+    asked = omega arith;
+    replies = _;
+    deep = _;
+    turns = turn_more one_turn_left.last none (ended low_read (inl refl) (done (ranged_read false (over 0 1)) arrived.last low_read refl));
+    answer = refl;
+  };
+  losses = refl;
+}

@@ -1,9 +1,9 @@
 -- Scenarios: runs of the device that are written down event by event (profile).
-use Rattle.std.specs.Prelude.{◌≡◌, ℕ, List, [], map}
+use Rattle.std.specs.Prelude.{◌≡◌, ℕ, ◌+◌, List, [], ◌∷◌, ◌++◌, map}
 use Rattle.satl_frame.specs.declared.frames.Frame.{Frame}
 use Rattle.satl_frame.specs.Output.{Answer}
 use Rattle.satl_direct.specs.Device.{Device}
-use Rattle.satl_direct.specs.Run.{Run, RunInPart, joined}
+use Rattle.satl_direct.specs.Run.{DoesShort, Run, RunDeep, joined, losses_in}
 
 -- an event, and its answers
 pub record Step : Type 0 where
@@ -39,7 +39,18 @@ pub record CanHappen (scenario : Scenario) : Type 0 where
   pub groups : run.groups ≡ groups_of scenario
   pub depth : run.deep ≡ scenario.depth
 
--- the scenario is a run, but that its last event may be cut short between two of its turns
-abbrev pub CanBeCut : Scenario → Type 0
-CanBeCut scenario =
-    RunInPart scenario.first (events_of scenario) (groups_of scenario) scenario.losses scenario.last
+-- the scenario is a run, and behind it one event that is cut short between two of its turns; each event has the answers that
+-- stand beside it
+pub record CanBeCut (scenario : Scenario) : Type 0 where
+  pub earlier : List Frame
+  pub event : Frame
+  pub events : events_of scenario ≡ earlier ++ event ∷ []
+  pub groups : List (List Answer)
+  pub answers : List Answer
+  pub all_groups : groups_of scenario ≡ groups ++ answers ∷ []
+  pub lost : ℕ
+  pub deep : ℕ
+  pub mid : Device
+  pub run : RunDeep scenario.first earlier groups lost mid deep
+  pub short : DoesShort event mid answers scenario.last
+  pub losses : scenario.losses ≡ lost + losses_in event mid scenario.last
