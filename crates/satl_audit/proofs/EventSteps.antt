@@ -14,7 +14,7 @@ use Rattle.satl_cdb.specs.Table.{says}
 use Rattle.satl_frame.specs.declared.frames.Frame.{Frame}
 use Rattle.satl_frame.specs.declared.frames.Frame.TheVariants as frames
 use Rattle.satl_frame.specs.Output.{Answer}
-use Rattle.satl_frame.specs.Output.Answer.{replied, ended}
+use Rattle.satl_frame.specs.Output.Answer.{replied, closed}
 use Rattle.satl_direct.specs.Device.{Device}
 use Rattle.satl_direct.specs.Arrival.{ArrivesAs, Arrives, arrival, is_unit_0}
 use Rattle.satl_direct.specs.Bench.{Happens}
@@ -107,7 +107,7 @@ module _ (first : List Cell) (ds : List Deed) (s new : Device) (now : List Answe
   turn_event n deep replies is t up =
       ⊎_elim (λ d. absurd (both_ways _ up d)) (λ r. record { deeds = r.deeds; stepped = (replies, is, r.turns); behind = r.behind; sane = r.sane }) (turns_split first ds t h b)
 
-  end_event : (count deep : ℕ) (replies : List Reply) → now ≡ map replied replies ++ ended ∷ [] → TurnsOf count s replies new deep → new.tasks ≡ [] → new.down ≡ false → EventSplit first ds frames.End s now new
+  end_event : (count deep : ℕ) (replies : List Reply) → now ≡ map replied replies ++ closed ∷ [] → TurnsOf count s replies new deep → new.tasks ≡ [] → new.down ≡ false → EventSplit first ds frames.End s now new
   end_event count deep replies is t empty up =
       ⊎_elim (λ d. absurd (both_ways _ up d)) (λ r. record { deeds = r.deeds; stepped = (replies, is, count, r.turns, empty); behind = r.behind; sane = r.sane }) (turns_split first ds t h b)
 

@@ -10,7 +10,7 @@ use Rattle.satl_base.proofs.ListsLemmas.{All-push_end, All-filter}
 use Rattle.satl_frame.specs.declared.frames.Frame.{Frame}
 use Rattle.satl_frame.specs.declared.frames.Frame.TheVariants as frames
 use Rattle.satl_frame.specs.Output.{Answer, all_answered, end_bytes, reply_bytes}
-use Rattle.satl_frame.specs.Output.Answer.{replied, ended}
+use Rattle.satl_frame.specs.Output.Answer.{replied, closed}
 use Rattle.satl_cdb.specs.Table.{says}
 use Rattle.satl_direct.specs.Device.{Device, is_of}
 use Rattle.satl_direct.specs.Arrival.{Arrival, ArrivesAs, arrival, is_unit_0}
@@ -77,9 +77,9 @@ benched_same (events.Order order) s u v ds es e f = (e.0 ∙ sym f.0, e.1 ∙ sy
 benched_same events.Power s u v ds es e f = (e.0 ∙ sym f.0, e.1 ∙ sym f.1)
 benched_same events.Unplug s u v ds es e f = absurd e
 
-pub ended_push : (replies : List Reply) (rest : List ℕ) → all_answered (map replied replies ++ ended ∷ []) ++ rest ≡ said replies ++ (end_bytes ++ rest)
+pub ended_push : (replies : List Reply) (rest : List ℕ) → all_answered (map replied replies ++ closed ∷ []) ++ rest ≡ said replies ++ (end_bytes ++ rest)
 ended_push [] rest = append_assoc end_bytes [] rest
-ended_push (q ∷ replies) rest = append_assoc (reply_bytes q) (all_answered (map replied replies ++ ended ∷ [])) rest ∙ ap (λ l. reply_bytes q ++ l) (ended_push replies rest) ∙ sym (append_assoc (reply_bytes q) (said replies) (end_bytes ++ rest))
+ended_push (q ∷ replies) rest = append_assoc (reply_bytes q) (all_answered (map replied replies ++ closed ∷ [])) rest ∙ ap (λ l. reply_bytes q ++ l) (ended_push replies rest) ∙ sym (append_assoc (reply_bytes q) (said replies) (end_bytes ++ rest))
 
 pub stepped_same : (event : Frame) (s u v : Device) (now others : List Answer) (ds es : List Deed) (rest rest' : List ℕ) → Kept s → AllWhole ds → AllWhole es → Stepped event s now ds u → Stepped event s others es v →
     all_answered now ++ rest ≡ all_answered others ++ rest' → SameTurns ds es u v rest rest'

@@ -9,7 +9,7 @@ use Rattle.satl_identify.specs.declared.identity.Identity.{Identity}
 use Rattle.satl_line.specs.declared.entry.Entry.{Entry}
 use Rattle.satl_frame.specs.declared.frames.Frame.TheVariants as frames
 use Rattle.satl_frame.specs.Output.{all_answered, end_bytes}
-use Rattle.satl_frame.specs.Output.Answer.{replied, ended}
+use Rattle.satl_frame.specs.Output.Answer.{replied, closed}
 use Rattle.satl_direct.specs.Device.{Device, is_called}
 use Rattle.satl_direct.proofs.Naming.{called_self}
 use Rattle.satl_audit.specs.Advancing.{Advances, CannotGoOn, GoesOn}
@@ -75,7 +75,7 @@ module _ (identity : Identity) (input : List ℕ) (old mid : Steps) (sectors aft
 
   pub end_goes : (new : Steps) → device_at identity input new ≡ device_at identity input mid → TurnsOn (recorded identity input) count (progress old sectors) (progress mid after) → mid.output ≡ end_bytes ++ new.output → GoesOn (recorded identity input) frames.End (progress old sectors) (progress new after)
   end_goes new same t passed = record {
-    answers = map replied t.replies ++ ended ∷ [];
+    answers = map replied t.replies ++ closed ∷ [];
     deeds = t.deeds;
     stepped = (t.replies, refl, count, subst (TurnsDone (device_at identity input old) count t.replies t.deeds) (sym same) t.done, ap (λ (d : Device). d.tasks) same ∙ all_done (device_at identity input old) as_many t.done);
     whole = t.whole;

@@ -55,7 +55,7 @@ module _ (first : List Cell) (ds : List Deed) where
 
   pub turns_split : {n : ℕ} {s : Device} {replies : List Reply} {new : Device} {deep : ℕ} → TurnsOf n s replies new deep → IsSane s → Behind first ds s → (new.down ≡ true) ⊎ TurnsSplit first ds n s replies new
   turns_split {new = new} TurnsOf.none h b = inr (record { deeds = []; turns = TurnsDone.none; behind = subst (λ l. Behind first l new) (sym (append-nil ds)) b; sane = h })
-  turns_split {s = s} {new = new} (TurnsOf.more {mid = mid} {first = earlier} {rest = rest} so_far a) h b =
+  turns_split {s = s} {new = new} (TurnsOf.more {mid = mid} {earlier = earlier} {rest = rest} so_far a) h b =
       ⊎_elim (λ d. inl (around_down mid rest new a d)) (λ t. around_split s mid new earlier rest a t) (turns_split so_far h b)
 
 -- ---- and back

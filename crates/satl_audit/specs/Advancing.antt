@@ -1,4 +1,4 @@
--- An event of a record happens.
+-- An event of a record happens (profile).
 use Rattle.std.specs.Prelude.{◌≡◌, ℕ, ◌+◌, ◌≤◌, Bool, true, false, List, ◌++◌, None}
 use Rattle.satl_base.specs.declared.request.Request.{Request}
 use Rattle.satl_frame.specs.declared.frames.Frame.{Frame}

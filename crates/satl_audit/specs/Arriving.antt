@@ -1,4 +1,4 @@
--- What becomes of a request that the auditor knows.
+-- What becomes of a request that the auditor knows (profile).
 use Rattle.std.specs.Prelude.{◌≡◌, ℕ, ◌*◌, ◌≤◌, true, false, List, [], ◌++◌, map, take, Result, Ok, Err}
 use Rattle.std.specs.List.{list_any}
 use Rattle.satl_base.specs.declared.block.Block.{Block}

@@ -1,4 +1,4 @@
--- How far a record is judged.
+-- How far a record is judged (profile).
 use Rattle.std.specs.Prelude.{ℕ, List}
 use Rattle.satl_identify.specs.declared.identity.Identity.{Identity}
 use Rattle.satl_direct.specs.Device.{Device}

@@ -1,4 +1,4 @@
--- The tasks that wait, without their pages, each with the place of its data-out in the input.
+-- The tasks that wait, without their pages, each with the place of its data-out in the input (profile).
 use Rattle.std.specs.Prelude.{◌≡◌, ℕ, ◌+◌, ◌*◌, ◌≤◌, Bool, List, map, length, slice_index}
 use Rattle.std.specs.List.{AllByRecursion}
 use Rattle.satl_base.specs.Limits.{leave_no_room}

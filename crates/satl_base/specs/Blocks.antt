@@ -1,4 +1,4 @@
--- Blocks of 512 bytes, and the bytes of a list of them.
+-- Blocks of 512 bytes, and the bytes of a list of them (profile).
 use Rattle.std.specs.Prelude.{ℕ, ◌+◌, ◌*◌, ◌/◌, ◌%◌, ◌≡◌, ◌≤◌, ◌<◌, ◌==◌, ◌&&◌, not, nat_le, nat_lt, Bool, List, [], map, replicate, slice_index, get_or, take, length}
 use Rattle.std.specs.List.{AllByRecursion, flat_map, list_all}
 use Rattle.std.specs.Simd.{first_chunks}

@@ -1,4 +1,4 @@
--- What holds of every row of a table.
+-- What holds of every row of a table (profile).
 use Rattle.std.specs.Prelude.{Bool, true, ◌&&◌, nat_lt, nat_le, List, [], ◌∷◌}
 use Rattle.std.specs.List.{list_all}
 use Rattle.satl_cdb.specs.Rows.{Rule, Row}

@@ -6,7 +6,12 @@ ghost use Rattle.satl_base.specs.Places.{laid, text};
 ghost use Rattle.satl_cdb.specs.Table.{says};
 ghost use Rattle.satl_cdb.specs.Spelling.{bit_value, cdb_bytes, lines_10, lines_12, lines_16, lines_6, page_code_byte};
 
-use crate::codes::{INQUIRY, READ_CAPACITY_16, REPORT_LUNS, REQUEST_SENSE};
+use crate::codes::{
+    INQUIRY, MODE_SELECT_6, MODE_SELECT_10, MODE_SENSE_6, MODE_SENSE_10, READ_6, READ_10, READ_12,
+    READ_16, READ_CAPACITY_10, READ_CAPACITY_16, REPORT_LUNS, REQUEST_SENSE, SERVICE_ACTION_IN_16,
+    START_STOP_UNIT, SYNCHRONIZE_CACHE_10, SYNCHRONIZE_CACHE_16, UNMAP, VERIFY_10, VERIFY_12,
+    VERIFY_16, WRITE_6, WRITE_10, WRITE_12, WRITE_16, WRITE_SAME_10, WRITE_SAME_16,
+};
 use crate::command::{Command, Form};
 use byteorder::{BigEndian, ByteOrder};
 
@@ -95,10 +100,10 @@ fn mode_sense_bytes(
     let two = page_byte(control, page);
     let [_, low] = alloc.to_be_bytes();
     if !ten {
-        return six_bytes(0x1A, flag_byte(3, no_descriptor), two, 0, low);
+        return six_bytes(MODE_SENSE_6, flag_byte(3, no_descriptor), two, 0, low);
     }
     let one = flag_byte(4, long_lba) | flag_byte(3, no_descriptor);
-    let mut cdb = ten_bytes(0x5A, one, 0, u32::from(alloc));
+    let mut cdb = ten_bytes(MODE_SENSE_10, one, 0, u32::from(alloc));
     cdb[2] = two;
     cdb
 }
@@ -110,9 +115,9 @@ fn mode_select_bytes(ten: bool, length: u16) -> [u8; 16]
     let page_format = flag_byte(4, true);
     let [_, low] = length.to_be_bytes();
     if ten {
-        ten_bytes(0x55, page_format, 0, u32::from(length))
+        ten_bytes(MODE_SELECT_10, page_format, 0, u32::from(length))
     } else {
-        six_bytes(0x15, page_format, 0, 0, low)
+        six_bytes(MODE_SELECT_6, page_format, 0, 0, low)
     }
 }
 
@@ -131,10 +136,10 @@ fn read_bytes(form: Form, lba: u64, count: u32, fua: bool) -> [u8; 16]
 {
     let one = flag_byte(3, fua);
     match form {
-        Form::Six => short_bytes(0x08, lba, count),
-        Form::Ten => ten_bytes(0x28, one, lba, count),
-        Form::Twelve => twelve_bytes(0xA8, one, lba, count),
-        Form::Sixteen => sixteen_bytes(0x88, one, lba, count),
+        Form::Six => short_bytes(READ_6, lba, count),
+        Form::Ten => ten_bytes(READ_10, one, lba, count),
+        Form::Twelve => twelve_bytes(READ_12, one, lba, count),
+        Form::Sixteen => sixteen_bytes(READ_16, one, lba, count),
     }
 }
 
@@ -144,10 +149,10 @@ fn write_bytes(form: Form, lba: u64, count: u32, fua: bool) -> [u8; 16]
 {
     let one = flag_byte(3, fua);
     match form {
-        Form::Six => short_bytes(0x0A, lba, count),
-        Form::Ten => ten_bytes(0x2A, one, lba, count),
-        Form::Twelve => twelve_bytes(0xAA, one, lba, count),
-        Form::Sixteen => sixteen_bytes(0x8A, one, lba, count),
+        Form::Six => short_bytes(WRITE_6, lba, count),
+        Form::Ten => ten_bytes(WRITE_10, one, lba, count),
+        Form::Twelve => twelve_bytes(WRITE_12, one, lba, count),
+        Form::Sixteen => sixteen_bytes(WRITE_16, one, lba, count),
     }
 }
 
@@ -157,9 +162,9 @@ fn verify_bytes(form: Form, lba: u64, count: u32, compare: bool) -> [u8; 16]
 {
     let one = flag_byte(1, compare);
     match form {
-        Form::Ten => ten_bytes(0x2F, one, lba, count),
-        Form::Twelve => twelve_bytes(0xAF, one, lba, count),
-        Form::Six | Form::Sixteen => sixteen_bytes(0x8F, one, lba, count),
+        Form::Ten => ten_bytes(VERIFY_10, one, lba, count),
+        Form::Twelve => twelve_bytes(VERIFY_12, one, lba, count),
+        Form::Six | Form::Sixteen => sixteen_bytes(VERIFY_16, one, lba, count),
     }
 }
 
@@ -168,8 +173,13 @@ fn synchronize_cache_bytes(form: Form, lba: u64, count: u32) -> [u8; 16]
     ensures { result ≡ cdb_bytes (Command.Flush form lba count) }
 {
     match form {
-        Form::Ten => ten_bytes(0x35, 0, lba, count),
-        Form::Six | Form::Twelve | Form::Sixteen => sixteen_bytes(0x91, 0, lba, count),
+        Form::Ten => ten_bytes(SYNCHRONIZE_CACHE_10, 0, lba, count),
+        Form::Six | Form::Twelve | Form::Sixteen => sixteen_bytes(
+            SYNCHRONIZE_CACHE_16,
+            0,
+            lba,
+            count,
+        ),
     }
 }
 
@@ -179,8 +189,8 @@ fn write_same_bytes(form: Form, lba: u64, count: u32, unmap: bool) -> [u8; 16]
 {
     let one = flag_byte(3, unmap);
     match form {
-        Form::Ten => ten_bytes(0x41, one, lba, count),
-        Form::Six | Form::Twelve | Form::Sixteen => sixteen_bytes(0x93, one, lba, count),
+        Form::Ten => ten_bytes(WRITE_SAME_10, one, lba, count),
+        Form::Six | Form::Twelve | Form::Sixteen => sixteen_bytes(WRITE_SAME_16, one, lba, count),
     }
 }
 
@@ -211,10 +221,15 @@ fn bytes_of(command: &Command) -> [u8; 16]
         Command::ModeSelect { ten, length } => mode_select_bytes(ten, length),
         Command::StartStop { start, no_flush } => {
             let four = flag_byte(2, no_flush) | flag_byte(0, start);
-            six_bytes(0x1B, 0, 0, 0, four)
+            six_bytes(START_STOP_UNIT, 0, 0, 0, four)
         }
-        Command::ReadCapacity10 => six_bytes(0x25, 0, 0, 0, 0),
-        Command::ReadCapacity16 { alloc } => sixteen_bytes(0x9E, READ_CAPACITY_16, 0, alloc),
+        Command::ReadCapacity10 => six_bytes(READ_CAPACITY_10, 0, 0, 0, 0),
+        Command::ReadCapacity16 { alloc } => sixteen_bytes(
+            SERVICE_ACTION_IN_16,
+            READ_CAPACITY_16,
+            0,
+            alloc,
+        ),
         Command::ReportLuns { select, alloc } => report_luns_bytes(select, alloc),
         Command::Read {
             form,
@@ -241,7 +256,7 @@ fn bytes_of(command: &Command) -> [u8; 16]
             count,
             unmap,
         } => write_same_bytes(form, lba, count, unmap),
-        Command::Unmap { length } => ten_bytes(0x42, 0, 0, u32::from(length)),
+        Command::Unmap { length } => ten_bytes(UNMAP, 0, 0, u32::from(length)),
         Command::Pass { cdb } => pass_bytes(&cdb),
     }
 }

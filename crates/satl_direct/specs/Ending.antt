@@ -190,7 +190,7 @@ abbrev pub pass_sense : Modes → Option Sense → List ℕ
 pass_sense modes None = []
 pass_sense modes (Some sense) = sense_text modes sense
 
--- its data-in: none at a bad end or where T_DIR is 0 (SAT-3 12.2)
+-- its data-in: none where its command ended with ERR in STATUS (`is_bad`) or where T_DIR is 0 (SAT-3 12.2)
 abbrev pub pass_data : Pass → Taskfile → List Block → List ℕ
 pass_data pass ended taken = if is_bad ended || pass.out then [] else first_bytes pass.length taken
 

@@ -1,6 +1,6 @@
 -- Runs of the device over the frames of an input (profile). An event is one of these frames: REQUEST, MANAGE, TURN, BENCH or
 -- END; a bench event is what a BENCH frame carries. An answer of an event is a frame of the output: `replied` a REPLY,
--- `managed` a MANAGED, `ended` END; an answer of a step is a reply.
+-- `managed` a MANAGED, `closed` END; an answer of a step is a reply. `deep` is the greatest depth in what is spoken of.
 use Rattle.std.specs.Prelude.{◌≡◌, ◌≤◌, ℕ, suc, ◌+◌, max, min, not, ◌||◌, if◌then◌else◌, List, [], ◌∷◌, ◌++◌, map, length}
 use Rattle.std.specs.List.{filter, flat_map}
 use Rattle.satl_base.specs.declared.bench.BenchEvent.{BenchEvent}
@@ -11,7 +11,7 @@ use Rattle.satl_base.specs.declared.reply.Response.{Response}
 use Rattle.satl_frame.specs.declared.frames.Frame.{Frame}
 use Rattle.satl_frame.specs.declared.frames.Frame.TheVariants as frames
 use Rattle.satl_frame.specs.Output.{Answer}
-use Rattle.satl_frame.specs.Output.Answer.{replied, managed, ended}
+use Rattle.satl_frame.specs.Output.Answer.{replied, managed, closed}
 use Rattle.satl_line.specs.declared.entry.Entry.{Entry}
 use Rattle.satl_line.specs.Conflict.{conflicts}
 use Rattle.satl_line.specs.Kinds.{is_ranged}
@@ -43,8 +43,8 @@ pub data MayLose (Step : Device → List Reply → Device → Type 0) (old : Dev
 -- n turns with quiet moves around each, and the greatest depth after one of them (profile)
 pub data TurnsOf : ℕ → Device → List Reply → Device → ℕ → Type 0 where
   none : {s : Device} → TurnsOf 0 s [] s 0
-  more : {n deep : ℕ} {s mid new : Device} {first rest : List Reply} → TurnsOf n s first mid deep → Around Turn mid rest new
-      → TurnsOf (suc n) s (first ++ rest) new (max deep (depth new))
+  more : {n deep : ℕ} {s mid new : Device} {earlier rest : List Reply} → TurnsOf n s earlier mid deep
+      → Around Turn mid rest new → TurnsOf (suc n) s (earlier ++ rest) new (max deep (depth new))
 
 -- turns until no task is left (profile)
 pub record Drains (s : Device) (answers : List Reply) (new : Device) (deep : ℕ) : Type 0 where
@@ -78,7 +78,7 @@ Does (frames.Turn n) s answers new deep =
 Does (frames.Bench event) s answers new deep =
     (replies : List Reply) × (answers ≡ map replied replies) × Around (Happens event) s replies new × (deep ≡ depth new)
 Does frames.End s answers new deep =
-    (replies : List Reply) × (answers ≡ map replied replies ++ ended ∷ []) × Drains s replies new deep
+    (replies : List Reply) × (answers ≡ map replied replies ++ closed ∷ []) × Drains s replies new deep
 
 -- how often the link was lost between the two: once where it was up and is down, else not (profile)
 abbrev pub losses_of : Device → Device → ℕ
@@ -138,7 +138,7 @@ pub data DoesInPart (event : Frame) (s : Device) (answers : List Answer) (new : 
 
 -- a run, and one event more, which was carried out or cut short between two of its turns (profile)
 pub data RunInPart (first : Device) : List Frame → List (List Answer) → ℕ → Device → Type 0 where
-  last : {events : List Frame} {groups : List (List Answer)} {losses deep : ℕ} {s new : Device} (event : Frame)
+  one_more : {events : List Frame} {groups : List (List Answer)} {losses deep : ℕ} {s new : Device} (event : Frame)
       (now : List Answer)
       → RunDeep first events groups losses s deep → DoesInPart event s now new
       → RunInPart first (events ++ event ∷ []) (groups ++ now ∷ []) (losses + losses_in event s new) new

@@ -7,7 +7,7 @@ use Rattle.satl_frame.specs.declared.frames.Frame.{Frame}
 use Rattle.satl_frame.specs.declared.frames.Frame.TheVariants as frames
 use Rattle.satl_frame.specs.Output.{Answer, all_answered, answer_bytes, end_bytes, out_magic}
 use Rattle.satl_frame.specs.Frames.{framed}
-use Rattle.satl_frame.specs.Output.Answer.{replied, managed, ended}
+use Rattle.satl_frame.specs.Output.Answer.{replied, managed, closed}
 use Rattle.satl_fleet.specs.Routing.{is_report, seen}
 use Rattle.satl_fleet.specs.Target.{target_reply}
 
@@ -23,7 +23,7 @@ is_silent k function = not (k == 0) && (function == nexus_reset_code)
 abbrev pub is_left_out : ℕ → Answer → Bool
 is_left_out k (replied r) = false
 is_left_out k (managed nexus function response tag) = is_silent k function
-is_left_out k ended = true
+is_left_out k closed = true
 
 -- the answers of a unit that are told (profile)
 abbrev pub kept : ℕ → List Answer → List Answer

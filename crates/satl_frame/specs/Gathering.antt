@@ -1,4 +1,4 @@
--- Bytes that are gathered before they are written.
+-- Bytes that are gathered before they are written (profile).
 use Rattle.std.specs.Prelude.{ℕ, ◌≡◌, List, ◌++◌, Option}
 use Rattle.satl_io.specs.Known.{Wrote}
 

@@ -70,12 +70,12 @@ fault_bytes reason offset = framed 0x8F 9 (reason_code reason ∷ big_bytes 8 of
 pub data Answer : Type 0 where
   replied : Reply → Answer
   managed : ℕ → ℕ → Response → Tag → Answer
-  ended : Answer
+  closed : Answer
 
 abbrev pub answer_bytes : Answer → List ℕ
 answer_bytes (replied r) = reply_bytes r
 answer_bytes (managed nexus function response tag) = managed_bytes nexus function response tag
-answer_bytes ended = end_bytes
+answer_bytes closed = end_bytes
 
 abbrev pub all_answered : List Answer → List ℕ
 all_answered answers = flat_map answer_bytes answers

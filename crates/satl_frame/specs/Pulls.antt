@@ -1,4 +1,4 @@
--- What pulling a stated number of bytes from a source leaves.
+-- What pulling a stated number of bytes from a source leaves (profile).
 use Rattle.std.specs.Prelude.{ℕ, ◌<◌, ◌≤◌, ◌≡◌, true, List, ◌++◌, length, take, reverse, IfSome, IsErrOf, Option, Some, None}
 use Rattle.std.specs.declared.result.Result.{Result}
 use Rattle.std.specs.declared.result.Result.TheVariants.{Ok, Err}

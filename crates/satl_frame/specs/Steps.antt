@@ -1,4 +1,4 @@
--- What the steps of a reader do, one after another.
+-- What the steps of a reader do, one after another (profile).
 use Rattle.std.specs.Prelude.{ℕ, ◌+◌, ◌≤◌, ◌≡◌, true, List, length, take, slice_index, IfSome, Option, Some, None}
 use Rattle.satl_io.specs.Known.{Took}
 use Rattle.satl_frame.specs.Frames.{spelled, IsFrame}

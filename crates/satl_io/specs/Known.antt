@@ -1,4 +1,4 @@
--- What calls took from a source and wrote to a sink, where these tell their bytes.
+-- What calls took from a source and wrote to a sink, where these tell their bytes (profile).
 use Rattle.std.specs.Prelude.{List, ℕ, take}
 use Rattle.std.specs.declared.option.Option.{Option}
 use Rattle.std.specs.Io.KnownBytes.{Consumes, Appends}

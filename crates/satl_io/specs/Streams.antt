@@ -1,4 +1,4 @@
--- A reader or a writer of the standard library behind a source or a sink.
+-- A reader or a writer of the standard library behind a source or a sink (profile).
 use Rattle.std.specs.Prelude.{ℕ, List}
 use Rattle.std.specs.declared.option.Option.{Option}
 

@@ -5,7 +5,7 @@ use Rattle.satl_base.specs.Lists.{how_many}
 use Rattle.satl_frame.specs.declared.frames.Frame.{Frame}
 use Rattle.satl_frame.specs.declared.frames.Frame.TheVariants as frames
 use Rattle.satl_frame.specs.Output.{Answer}
-use Rattle.satl_frame.specs.Output.Answer.{replied, managed, ended}
+use Rattle.satl_frame.specs.Output.Answer.{replied, managed, closed}
 use Rattle.satl_direct.specs.Device.{Device}
 use Rattle.satl_direct.specs.Arrival.{Arrives, arrival}
 use Rattle.satl_direct.specs.Run.{Does, Manages, RunDeep, joined}
@@ -55,7 +55,7 @@ module _ (nexus tag : ℕ) where
         quiet_taken nexus tag (frames.Bench event) s a.before a.quiet_before,
         bench_counts nexus tag event a.before a.after h.0 a.step,
       )
-  step_counts frames.End s new now d h = omega (arith, group_counts now h.0 (ended ∷ []) h.1 refl, turns_count nexus tag (h.2).turns)
+  step_counts frames.End s new now d h = omega (arith, group_counts now h.0 (closed ∷ []) h.1 refl, turns_count nexus tag (h.2).turns)
 
   -- one more group of answers
   joined_push : (groups : List (List Answer)) (group : List Answer) → how_many (answers_to nexus tag) (joined (groups ++ group ∷ [])) ≡ how_many (answers_to nexus tag) (joined groups) + how_many (answers_to nexus tag) group

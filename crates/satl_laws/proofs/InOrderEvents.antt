@@ -13,7 +13,7 @@ use Rattle.satl_regs.specs.Sectors.{with_flaw, without_flaws}
 use Rattle.satl_frame.specs.declared.frames.Frame.{Frame}
 use Rattle.satl_frame.specs.declared.frames.Frame.TheVariants as frames
 use Rattle.satl_frame.specs.Output.{Answer}
-use Rattle.satl_frame.specs.Output.Answer.{ended, managed, replied}
+use Rattle.satl_frame.specs.Output.Answer.{closed, managed, replied}
 use Rattle.satl_direct.specs.Device.{Device}
 use Rattle.satl_direct.specs.Arrival.{Arrives}
 use Rattle.satl_direct.specs.Bench.{Happens}
@@ -110,7 +110,7 @@ module _ (first : Device) (exact : Bool) where
       (quiet_at first exact events (answers ++ map replied h.0) a.after new a.quiet_after
       (bench_at events answers a.before a.after event h.0 (fewer events (frames.Bench event) once) fits a.step (quiet_at first exact events answers old a.before a.quiet_before o))))
   does_at frames.End events answers now old new d size fits once h o =
-      subst (λ l. InOrderAt first exact (events ++ frames.End ∷ []) l new) (append_assoc answers (map replied h.0) (ended ∷ []) ∙ ap (λ l. answers ++ l) (sym h.1))
-      (unasking_at events ((answers ++ map replied h.0) ++ ended ∷ []) new frames.End refl (λ nexus tag. refl)
-      (told_at first exact events (answers ++ map replied h.0) new ended (λ r. refl) (λ nexus tag. refl)
+      subst (λ l. InOrderAt first exact (events ++ frames.End ∷ []) l new) (append_assoc answers (map replied h.0) (closed ∷ []) ∙ ap (λ l. answers ++ l) (sym h.1))
+      (unasking_at events ((answers ++ map replied h.0) ++ closed ∷ []) new frames.End refl (λ nexus tag. refl)
+      (told_at first exact events (answers ++ map replied h.0) new closed (λ r. refl) (λ nexus tag. refl)
       (turns_at first exact events answers (fewer events frames.End once) (h.2).turns o)))

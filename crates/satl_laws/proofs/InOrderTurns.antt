@@ -39,7 +39,7 @@ module _ (first : Device) (exact : Bool) where
   pub turns_at : (events : List Frame) (answers : List Answer) → ((nexus tag : ℕ) → how_many (asks_by nexus tag) events < 2) → {n deep : ℕ} {s new : Device} {said : List Reply} → TurnsOf n s said new deep
       → InOrderAt first exact events answers s → InOrderAt first exact events (answers ++ map replied said) new
   turns_at events answers once {s = s} none o = subst (λ a. InOrderAt first exact events a s) (sym (append-nil answers)) o
-  turns_at events answers once {new = new} (more {mid = mid} {first = some} {rest = rest} so_far next) o =
+  turns_at events answers once {new = new} (more {mid = mid} {earlier = some} {rest = rest} so_far next) o =
       subst (λ a. InOrderAt first exact events a new) (append_assoc answers (map replied some) (map replied rest) ∙ ap (λ l. answers ++ l) (sym (map-append replied some rest)))
       (quiet_at first exact events ((answers ++ map replied some) ++ map replied rest) next.after new next.quiet_after
       (turn_at events (answers ++ map replied some) next.before next.after rest once next.step

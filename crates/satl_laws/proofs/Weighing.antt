@@ -94,7 +94,7 @@ module _ (nexus tag : ℕ) where
   -- so do many turns
   pub turns_count : {n deep : ℕ} {s new : Device} {answers : List Reply} → TurnsOf n s answers new deep → replies answers + mine new.tasks ≡ mine s.tasks
   turns_count none = omega arith
-  turns_count {new = new} (more {mid = mid} {first = first} {rest = rest} so_far next) =
+  turns_count {new = new} (more {mid = mid} {earlier = first} {rest = rest} so_far next) =
       omega (
         arith,
         turns_count so_far,

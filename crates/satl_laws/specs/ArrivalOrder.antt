@@ -17,7 +17,7 @@ use Rattle.satl_cdb.specs.Table.{says}
 use Rattle.satl_frame.specs.declared.frames.Frame.{Frame}
 use Rattle.satl_frame.specs.declared.frames.Frame.TheVariants as frames
 use Rattle.satl_frame.specs.Output.{Answer}
-use Rattle.satl_frame.specs.Output.Answer.{replied, managed, ended}
+use Rattle.satl_frame.specs.Output.Answer.{replied, managed, closed}
 use Rattle.satl_direct.specs.Device.{Device}
 use Rattle.satl_direct.specs.Valid.{IsValid}
 use Rattle.satl_direct.specs.Run.{Run}
@@ -33,7 +33,7 @@ is_good TaskSetFull = false
 abbrev pub is_done : Request → Answer → Bool
 is_done r (replied reply) = (reply.nexus == r.nexus) && ((reply.tag).0 == (r.tag).0) && is_good reply.status
 is_done r (managed from function response named) = false
-is_done r ended = false
+is_done r closed = false
 
 -- whether a request was answered with GOOD (SAM-5 5.3.1)
 abbrev pub was_done : List Answer → Request → Bool

@@ -8,7 +8,7 @@ use Rattle.satl_base.specs.Names.{is_name}
 use Rattle.satl_frame.specs.declared.frames.Frame.{Frame}
 use Rattle.satl_frame.specs.declared.frames.Frame.TheVariants as frames
 use Rattle.satl_frame.specs.Output.{Answer}
-use Rattle.satl_frame.specs.Output.Answer.{replied, managed, ended}
+use Rattle.satl_frame.specs.Output.Answer.{replied, managed, closed}
 use Rattle.satl_line.specs.declared.entry.Entry.{Entry}
 use Rattle.satl_direct.specs.Device.{Device, is_called, is_of}
 use Rattle.satl_direct.specs.Arrival.{Arrival, arrival}
@@ -21,7 +21,7 @@ use Rattle.satl_direct.specs.Run.RunDeep.{start, step}
 abbrev pub answers_to : ℕ → ℕ → Answer → Bool
 answers_to nexus tag (replied r) = is_name nexus tag r.nexus (r.tag).0
 answers_to nexus tag (managed from function response named) = false
-answers_to nexus tag ended = false
+answers_to nexus tag closed = false
 
 -- whether an event is a request of this nexus and tag (SAM-5 4.7)
 abbrev pub asks_by : ℕ → ℕ → Frame → Bool

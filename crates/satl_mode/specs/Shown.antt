@@ -1,4 +1,4 @@
--- A MODE SELECT of what MODE SENSE showed.
+-- A MODE SELECT of what MODE SENSE showed (profile).
 use Rattle.std.specs.Prelude.{◌≡◌, ℕ, ◌^◌, ◌<◌, ◌++◌, ◌∷◌, Bool, List, length, Ok}
 use Rattle.satl_base.specs.declared.block.Block.{Block}
 use Rattle.satl_base.specs.declared.modes.Modes.{Modes}

@@ -9,7 +9,7 @@ use Rattle.satl_base.specs.declared.request.Request.{Request}
 use Rattle.satl_frame.specs.declared.frames.Frame.{Frame}
 use Rattle.satl_frame.specs.declared.frames.Frame.TheVariants as frames
 use Rattle.satl_frame.specs.Output.{Answer}
-use Rattle.satl_frame.specs.Output.Answer.{ended, managed, replied}
+use Rattle.satl_frame.specs.Output.Answer.{closed, managed, replied}
 use Rattle.satl_direct.specs.Device.{Device}
 use Rattle.satl_direct.specs.Arrival.{Arrives}
 use Rattle.satl_direct.specs.Bench as bench
@@ -49,7 +49,7 @@ turns {deep = deep} {replies = replies} all = record { does = (replies, deep, re
 pub one_turn : {s : Device} {replies : List Reply} (new : Device) → Turn s replies new → Occurs (frames.Turn 1) s (map replied replies) new (max (max 0 (depth new)) (depth new))
 one_turn new turn = turns (turn_more new none turn)
 
-pub drained : {n deep : ℕ} {s new : Device} {replies : List Reply} → TurnsOf n s replies new deep → new.tasks ≡ [] → Occurs frames.End s (map replied replies ++ ended ∷ []) new deep
+pub drained : {n deep : ℕ} {s new : Device} {replies : List Reply} → TurnsOf n s replies new deep → new.tasks ≡ [] → Occurs frames.End s (map replied replies ++ closed ∷ []) new deep
 drained {n = n} {replies = replies} all empty = record { does = (replies, refl, record { count = n; turns = all; empty = empty }) }
 
 -- a task management function, after quiet moves

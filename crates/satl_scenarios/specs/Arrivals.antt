@@ -1,4 +1,5 @@
--- Commands as they arrive: conditions asked for, another logical unit, no block, a set full of blocks, expected lengths.
+-- Commands as they arrive: conditions asked for, another logical unit, no block, a set full of blocks, expected lengths
+-- (profile).
 use Rattle.std.specs.Prelude.{ℕ, ◌-◌, false, List, [], ◌∷◌, ◌++◌, length, map, replicate, Some, None}
 use Rattle.satl_base.specs.declared.request.Request.{Request as Asked}
 use Rattle.satl_base.specs.declared.reply.Scsi.TheVariants.{Good, TaskSetFull}

@@ -1,4 +1,4 @@
--- Tasks of other commands than READ and WRITE, each of which ends in a turn.
+-- Tasks of other commands than READ and WRITE, each of which ends in a turn (profile).
 use Rattle.std.specs.Prelude.{false, true, List, [], ◌∷◌, ◌++◌, replicate}
 use Rattle.satl_base.specs.declared.block.Block.{Block}
 use Rattle.satl_base.specs.Blocks.{zero_block}

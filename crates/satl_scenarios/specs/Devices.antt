@@ -1,4 +1,4 @@
--- Blocks, sectors and small devices that the scenarios share.
+-- Blocks, sectors and small devices that the scenarios share (profile).
 use Rattle.std.specs.Prelude.{ℕ, true, false, List, [], ◌∷◌, length, replicate}
 use Rattle.satl_base.specs.declared.block.Block.{Block}
 use Rattle.satl_base.specs.Cells.{Cell, lasts}

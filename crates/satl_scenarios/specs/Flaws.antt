@@ -4,7 +4,7 @@ use Rattle.satl_base.specs.declared.bench.BenchEvent.TheVariants.{Glitch, Strike
 use Rattle.satl_base.specs.declared.bench.Which.TheVariants as flaws
 use Rattle.satl_base.specs.Cells.{lasts, cached_over}
 use Rattle.satl_frame.specs.declared.frames.Frame.TheVariants.{Bench, End, Turn}
-use Rattle.satl_frame.specs.Output.Answer.{ended}
+use Rattle.satl_frame.specs.Output.Answer.{closed}
 use Rattle.satl_scenarios.specs.Scenario.{Scenario, answered, silent}
 use Rattle.satl_scenarios.specs.Devices.{aa, bb, never_written, device, unreadable, unwritable, zeros}
 use Rattle.satl_scenarios.specs.Replies.{check_condition, good, sense, sense_at}
@@ -20,7 +20,7 @@ flaw_among_writes = record {
       ∷ silent (write_10 1 0 (aa ∷ []))
       ∷ silent (read_10 2 1 1)
       ∷ silent (write_10 3 2 (bb ∷ []))
-      ∷ answered End (check_condition 2 (sense_at 0x3 0x11 0x00 1) ∷ good 1 [] ∷ good 3 [] ∷ ended ∷ [])
+      ∷ answered End (check_condition 2 (sense_at 0x3 0x11 0x00 1) ∷ good 1 [] ∷ good 3 [] ∷ closed ∷ [])
       ∷ [];
   losses = 0;
   depth = 3;

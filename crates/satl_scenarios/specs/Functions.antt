@@ -5,7 +5,7 @@ use Rattle.satl_cdb.specs.declared.command.Command.TheVariants.{Read}
 use Rattle.satl_cdb.specs.declared.command.Form.TheVariants.{Ten}
 use Rattle.satl_unit.specs.declared.attention.Attention.TheVariants.{UnitReset}
 use Rattle.satl_frame.specs.declared.frames.Frame.TheVariants.{End, Manage, Request}
-use Rattle.satl_frame.specs.Output.Answer.{ended}
+use Rattle.satl_frame.specs.Output.Answer.{closed}
 use Rattle.satl_scenarios.specs.Scenario.{Scenario, answered, silent}
 use Rattle.satl_scenarios.specs.Devices.{never_written}
 use Rattle.satl_scenarios.specs.Replies.{check_condition, response, sense}
@@ -36,7 +36,7 @@ tasks_cleared = record {
       silent (read_10 1 0 1)
       ∷ answered (Manage (manage 1 0x04 0)) (response 1 0x04 0 Complete ∷ [])
       ∷ answered (read_10 2 0 1) (check_condition 2 (sense 0x6 0x2F 0x00) ∷ [])
-      ∷ answered End (ended ∷ [])
+      ∷ answered End (closed ∷ [])
       ∷ [];
   losses = 0;
   depth = 1;

@@ -4,7 +4,7 @@ use Rattle.satl_base.specs.declared.bench.BenchEvent.TheVariants.{Unplug}
 use Rattle.satl_base.specs.declared.reply.Response.TheVariants.{Complete}
 use Rattle.satl_base.specs.Cells.{lasts, cached_over}
 use Rattle.satl_frame.specs.declared.frames.Frame.TheVariants.{Bench, End, Manage, Turn}
-use Rattle.satl_frame.specs.Output.Answer.{ended}
+use Rattle.satl_frame.specs.Output.Answer.{closed}
 use Rattle.satl_scenarios.specs.Scenario.{Scenario, answered, silent}
 use Rattle.satl_scenarios.specs.Devices.{aa, never_written, device, zeros}
 use Rattle.satl_scenarios.specs.Replies.{check_condition, good, response, sense}
@@ -60,7 +60,7 @@ lost_on_arrival = record {
       silent (read_10 1 0 1)
       ∷ answered (read_10 2 1 1) (check_condition 1 (sense 0x4 0x08 0x00) ∷ check_condition 2 (sense 0x4 0x08 0x00) ∷ [])
       ∷ silent (read_10 3 0 1)
-      ∷ answered End (check_condition 3 (sense 0x4 0x08 0x00) ∷ ended ∷ [])
+      ∷ answered End (check_condition 3 (sense 0x4 0x08 0x00) ∷ closed ∷ [])
       ∷ [];
   losses = 1;
   depth = 1;
@@ -98,7 +98,7 @@ lost_at_the_end = record {
   steps =
       silent (read_10 1 0 1)
       ∷ silent (read_10 2 1 1)
-      ∷ answered End (good 2 (zeros ∷ []) ∷ check_condition 1 (sense 0x4 0x08 0x00) ∷ ended ∷ [])
+      ∷ answered End (good 2 (zeros ∷ []) ∷ check_condition 1 (sense 0x4 0x08 0x00) ∷ closed ∷ [])
       ∷ [];
   losses = 1;
   depth = 2;

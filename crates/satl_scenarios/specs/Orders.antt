@@ -1,4 +1,5 @@
--- Transfers that end out of order, as if each had ended on arrival: runs that the laws of order and of passing speak of.
+-- Transfers that end out of order, as if each had ended on arrival: runs that the laws of order and of passing speak of
+-- (profile).
 use Rattle.std.specs.Prelude.{◌≡◌, true, false, List, [], ◌∷◌, ◌++◌}
 use Rattle.std.specs.List.{AllByRecursion}
 use Rattle.satl_base.specs.declared.bench.BenchEvent.TheVariants as bench
@@ -8,7 +9,7 @@ use Rattle.satl_cdb.specs.declared.command.Form.TheVariants.{Ten}
 use Rattle.satl_unit.specs.declared.attention.Attention.TheVariants.{PowerOn}
 use Rattle.satl_frame.specs.declared.frames.Frame.{Frame}
 use Rattle.satl_frame.specs.declared.frames.Frame.TheVariants.{Bench, End, Request, Turn}
-use Rattle.satl_frame.specs.Output.Answer.{ended}
+use Rattle.satl_frame.specs.Output.Answer.{closed}
 use Rattle.satl_line.specs.declared.entry.Entry.{Entry}
 use Rattle.satl_laws.specs.ArrivalOrder.{AskOnce, IsFresh, is_plain}
 use Rattle.satl_laws.specs.OrderUnderErrors.{is_mild}
@@ -31,7 +32,7 @@ written_out_of_order = record {
       ∷ silent (write_10 3 1 (bb ∷ []))
       ∷ silent (read_10 4 0 2)
       ∷ silent (Request (request 5 (cdb_10 0x35 0 0) []))
-      ∷ answered End (good 3 [] ∷ good 2 [] ∷ good 4 (aa ∷ bb ∷ []) ∷ good 5 [] ∷ ended ∷ [])
+      ∷ answered End (good 3 [] ∷ good 2 [] ∷ good 4 (aa ∷ bb ∷ []) ∷ good 5 [] ∷ closed ∷ [])
       ∷ [];
   losses = 0;
   depth = 2;

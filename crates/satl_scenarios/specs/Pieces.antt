@@ -1,4 +1,4 @@
--- WRITE SAME and VERIFY that meet a flaw or a CRC error, and a WRITE SAME that unmaps.
+-- WRITE SAME and VERIFY that meet a flaw or a CRC error, and a WRITE SAME that unmaps (profile).
 use Rattle.std.specs.Prelude.{false, true, List, [], ◌∷◌, ◌++◌, replicate}
 use Rattle.satl_base.specs.declared.block.Block.{Block}
 use Rattle.satl_base.specs.Blocks.{zero_block}

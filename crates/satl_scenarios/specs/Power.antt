@@ -1,4 +1,4 @@
--- Power cycles, and what is on the medium after them.
+-- Power cycles, and what is on the medium after them (profile).
 use Rattle.std.specs.Prelude.{false, true, List, [], ◌∷◌, ◌++◌, replicate}
 use Rattle.satl_base.specs.declared.bench.BenchEvent.TheVariants as bench
 use Rattle.satl_base.specs.declared.block.Block.{Block}

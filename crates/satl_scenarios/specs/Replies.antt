@@ -1,4 +1,4 @@
--- Answers and sense data that the scenarios share.
+-- Answers and sense data that the scenarios share (profile).
 use Rattle.std.specs.Prelude.{ℕ, ◌*◌, List, [], ◌∷◌, length, None}
 use Rattle.satl_base.specs.declared.block.Block.{Block}
 use Rattle.satl_base.specs.declared.reply.Scsi.{Scsi}

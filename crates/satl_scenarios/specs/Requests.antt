@@ -1,4 +1,4 @@
--- Requests that the scenarios share, and the tasks that they become.
+-- Requests that the scenarios share, and the tasks that they become (profile).
 use Rattle.std.specs.Prelude.{ℕ, ◌*◌, true, List, [], ◌∷◌, ◌++◌, length, replicate, None}
 use Rattle.satl_base.specs.declared.block.Block.{Block}
 use Rattle.satl_base.specs.declared.request.Attr.TheVariants.{Simple}

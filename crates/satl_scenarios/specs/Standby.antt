@@ -1,4 +1,4 @@
--- Commands that a unit carries out while it is stopped and in standby.
+-- Commands that a unit carries out while it is stopped and in standby (profile).
 use Rattle.std.specs.Prelude.{false, List, [], ◌∷◌}
 use Rattle.satl_base.specs.declared.block.Block.{Block}
 use Rattle.satl_base.specs.Cells.{Cell, lasts}

@@ -1,10 +1,10 @@
--- Reads and writes that end in their turns.
+-- Reads and writes that end in their turns (profile).
 use Rattle.std.specs.Prelude.{false, List, [], ◌∷◌, ◌++◌, drop}
 use Rattle.satl_base.specs.declared.request.Attr.TheVariants.{Ordered}
 use Rattle.satl_base.specs.Cells.{lasts, cached_over}
 use Rattle.satl_frame.specs.declared.frames.Frame.TheVariants.{End, Request, Turn}
 use Rattle.satl_frame.specs.Output.{Answer}
-use Rattle.satl_frame.specs.Output.Answer.{ended}
+use Rattle.satl_frame.specs.Output.Answer.{closed}
 use Rattle.satl_scenarios.specs.Scenario.{Scenario, answered, silent}
 use Rattle.satl_scenarios.specs.Devices.{aa, bb, never_written, device, zeros}
 use Rattle.satl_scenarios.specs.Replies.{check_condition, good, sense}
@@ -33,7 +33,7 @@ two_reads answers = record {
   steps =
       silent (read_10 1 0 1)
       ∷ silent (read_10 2 1 1)
-      ∷ answered End (answers ++ ended ∷ [])
+      ∷ answered End (answers ++ closed ∷ [])
       ∷ [];
   losses = 0;
   depth = 2;
@@ -54,7 +54,7 @@ ordered_read = record {
   steps =
       silent (read_10 1 0 1)
       ∷ silent (Request (record (request 2 (cdb_10 0x28 1 1) []) { attr = Ordered }))
-      ∷ answered End (good 1 (zeros ∷ []) ∷ good 2 (zeros ∷ []) ∷ ended ∷ [])
+      ∷ answered End (good 1 (zeros ∷ []) ∷ good 2 (zeros ∷ []) ∷ closed ∷ [])
       ∷ [];
   losses = 0;
   depth = 1;

@@ -1,4 +1,5 @@
--- Reads and writes that wait: aborted, overlapped, as many as a task set holds, and left over where a run is cut short.
+-- Reads and writes that wait: aborted, overlapped, as many as a task set holds, and left over where a run is cut short
+-- (profile).
 use Rattle.std.specs.Prelude.{false, [], ◌∷◌, map}
 use Rattle.satl_base.specs.declared.reply.Scsi.TheVariants.{TaskSetFull}
 use Rattle.satl_base.specs.Places.{places}
@@ -8,7 +9,7 @@ use Rattle.satl_direct.specs.Device.{Device}
 use Rattle.satl_base.specs.declared.reply.Response.TheVariants.{Complete}
 use Rattle.satl_base.specs.Cells.{lasts, cached_over}
 use Rattle.satl_frame.specs.declared.frames.Frame.TheVariants.{End, Manage, Turn}
-use Rattle.satl_frame.specs.Output.Answer.{ended}
+use Rattle.satl_frame.specs.Output.Answer.{closed}
 use Rattle.satl_scenarios.specs.Scenario.{Scenario, answered, silent}
 use Rattle.satl_scenarios.specs.Devices.{aa, bb, never_written, device, zeros}
 use Rattle.satl_scenarios.specs.Replies.{check_condition, good, reply, response, sense}
@@ -21,7 +22,7 @@ aborted_half_done = record {
   steps =
       silent (write_10 1 0 (aa ∷ bb ∷ []))
       ∷ answered (Manage (manage 0 0x01 1)) (response 0 0x01 1 Complete ∷ [])
-      ∷ answered End (ended ∷ [])
+      ∷ answered End (closed ∷ [])
       ∷ [];
   losses = 0;
   depth = 1;
@@ -35,7 +36,7 @@ overlapped_reads = record {
   steps =
       silent (read_10 1 0 1)
       ∷ answered (read_10 1 1 1) (check_condition 1 (sense 0xB 0x4E 0x00) ∷ [])
-      ∷ answered End (ended ∷ [])
+      ∷ answered End (closed ∷ [])
       ∷ [];
   losses = 0;
   depth = 1;

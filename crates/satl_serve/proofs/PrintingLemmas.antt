@@ -5,7 +5,7 @@ use Rattle.std.specs.Prelude.{sum_by}
 use Rattle.std.proofs.lemmas.List.Sums.{sum_by_push}
 use Rattle.satl_base.specs.declared.reply.Scsi.TheVariants.{Good, CheckCondition, TaskSetFull}
 use Rattle.satl_frame.specs.Output.{Answer}
-use Rattle.satl_frame.specs.Output.Answer.{replied, managed, ended}
+use Rattle.satl_frame.specs.Output.Answer.{replied, managed, closed}
 use Rattle.satl_io.specs.Causes.{total}
 use Rattle.satl_text.specs.Totals.{data_count, data_sum, one_with, summary_of}
 use Rattle.satl_text.specs.declared.summary.Summary.{Summary}
@@ -38,7 +38,7 @@ nothing_more n answers answer p q r s t =
 totals_more : (n : ℕ) (answers : List Answer) (answer : Answer) → summary_of n (answers ++ answer ∷ []) ≡ totals_behind (summary_of n answers) answer
 totals_more n answers (replied r) = totals_grow n answers (replied r)
 totals_more n answers (managed nexus function response tag) = nothing_more n answers (managed nexus function response tag) refl refl refl refl refl
-totals_more n answers ended = nothing_more n answers ended refl refl refl refl refl
+totals_more n answers closed = nothing_more n answers closed refl refl refl refl refl
 
 -- ---- who prints, and who counts too
 

@@ -1,7 +1,7 @@
 // How answers are told, in each form.
 ghost use Rattle.std.specs.Prelude.{OnErr, OnOk};
 ghost use Rattle.satl_frame.specs.Output.{IsWritable};
-ghost use Rattle.satl_frame.specs.Output.Answer.{ended, managed, replied};
+ghost use Rattle.satl_frame.specs.Output.Answer.{closed, managed, replied};
 ghost use Rattle.satl_io.specs.Causes.{HasCause};
 ghost use Rattle.satl_io.specs.Known.{Wrote, WrotePart};
 ghost use Rattle.satl_serve.specs.Forms.{begun, fault_told, told};
@@ -87,8 +87,8 @@ pub fn tell_managed<K: Sink>(
 
 /// The end of a whole input.
 pub fn tell_end<K: Sink>(form: Form, sink: &mut K) -> Result<(), WriteFault>
-    ensures all { OnOk result (Wrote (K.written sink.old) (K.written sink.new) (told form ended)) }
-    ensures part { OnErr result (WrotePart (K.written sink.old) (K.written sink.new) (told form ended)) }
+    ensures all { OnOk result (Wrote (K.written sink.old) (K.written sink.new) (told form closed)) }
+    ensures part { OnErr result (WrotePart (K.written sink.old) (K.written sink.new) (told form closed)) }
     ensures cause { HasCause (K.faults sink.old) (K.faults sink.new) result }
 {
     match form {

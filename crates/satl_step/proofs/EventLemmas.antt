@@ -13,7 +13,7 @@ use Rattle.satl_io.specs.Known.{Wrote, WrotePart}
 use Rattle.satl_frame.specs.declared.frames.Frame.{Frame}
 use Rattle.satl_frame.specs.declared.frames.Frame.TheVariants as frames
 use Rattle.satl_frame.specs.Output.{Answer}
-use Rattle.satl_frame.specs.Output.Answer.{replied, managed, ended}
+use Rattle.satl_frame.specs.Output.Answer.{replied, managed, closed}
 use Rattle.satl_frame.specs.Pulls.{cut_to}
 use Rattle.satl_line.specs.Tasks.{Held, entries_of}
 use Rattle.satl_direct.specs.Arrival.{Arrives}
@@ -50,7 +50,7 @@ pub record OneTurn (s : Device) (replies : List Reply) (new : Device) (deep : �
 
 pub one_turn : (n : ℕ) (s new : Device) (replies : List Reply) (deep : ℕ) → n ≡ 1 → TurnsOf n s replies new deep → OneTurn s replies new deep
 one_turn n s new replies deep is none = absurd (omega (arith, is))
-one_turn n s new replies deep is (more {n = m} {mid = mid} {first = first} {rest = rest} a step) =
+one_turn n s new replies deep is (more {n = m} {mid = mid} {earlier = first} {rest = rest} a step) =
     let z = zero_turns m s mid first _ (omega (arith, is)) a in
     record {
       step = subst (λ l. Around Turn s (l ++ rest) new) (sym z.1) (subst (λ x. Around Turn x rest new) z.0 step);
@@ -133,10 +133,10 @@ carried_turns n a c replies deep turns covered last = record {
   covered = λ deep_before. omega (arith, covered deep_before, last deep_before);
 }
 
-pub carried_end : (n : ℕ) (a c : Stand) (replies : List Reply) (deep : ℕ) → TurnsOf n a.device replies c.device deep → (IsDeep a.tally → deep ≤ c.tally.deepest) → c.device.tasks ≡ [] → Carried frames.End a (map replied replies ++ ended ∷ []) c
+pub carried_end : (n : ℕ) (a c : Stand) (replies : List Reply) (deep : ℕ) → TurnsOf n a.device replies c.device deep → (IsDeep a.tally → deep ≤ c.tally.deepest) → c.device.tasks ≡ [] → Carried frames.End a (map replied replies ++ closed ∷ []) c
 carried_end n a c replies deep turns covered empty = record {
   deep = deep;
-  does = λ whole is. subst (λ f. Does f a.device (map replied replies ++ ended ∷ []) c.device deep) (sym (whole_end is.room whole is.cut)) (replies, refl, record { count = n; turns = turns; empty = empty });
+  does = λ whole is. subst (λ f. Does f a.device (map replied replies ++ closed ∷ []) c.device deep) (sym (whole_end is.room whole is.cut)) (replies, refl, record { count = n; turns = turns; empty = empty });
   covered = covered;
 }
 
@@ -231,21 +231,21 @@ module _ {T : Type 0} (told : T → Answer → List ℕ) (behind : T → Answer 
     part = on_err_weaker r (turns_in_part n a c) turns.part;
   }
 
-  pub end_done : (n : ℕ) (a b c : Scene T) → b.stand ≡ c.stand → c.stand.device.tasks ≡ [] → TurnsTold told behind n a b → Wrote b.telling.written c.telling.written (told b.telling.teller ended) → c.telling.teller ≡ behind b.telling.teller ended → Done told behind frames.End a c
+  pub end_done : (n : ℕ) (a b c : Scene T) → b.stand ≡ c.stand → c.stand.device.tasks ≡ [] → TurnsTold told behind n a b → Wrote b.telling.written c.telling.written (told b.telling.teller closed) → c.telling.teller ≡ behind b.telling.teller closed → Done told behind frames.End a c
   end_done n a b c same empty turns wrote next = record {
-    answers = map replied turns.replies ++ ended ∷ [];
+    answers = map replied turns.replies ++ closed ∷ [];
     carried = carried_end n a.stand c.stand turns.replies turns.deep (subst (λ s. TurnsOf n a.stand.device turns.replies s.device turns.deep) same turns.turns) (subst (λ s. IsDeep a.stand.tally → turns.deep ≤ s.tally.deepest) same turns.covered) empty;
     tallied = end_tallied n a.stand c.stand (subst (λ s. IsTallied (frames.Turn n) a.stand s) same turns.tallied);
-    told_so = told_more told behind a.telling b.telling c.telling (map replied turns.replies) (ended ∷ []) turns.told_so (told_one told behind b.telling c.telling ended wrote next);
+    told_so = told_more told behind a.telling b.telling c.telling (map replied turns.replies) (closed ∷ []) turns.told_so (told_one told behind b.telling c.telling closed wrote next);
   }
 
-  pub end_in_part : (n : ℕ) (a b c : Scene T) → b.stand ≡ c.stand → c.stand.device.tasks ≡ [] → TurnsTold told behind n a b → WrotePart b.telling.written c.telling.written (told b.telling.teller ended) → DoneInPart told behind frames.End a c
+  pub end_in_part : (n : ℕ) (a b c : Scene T) → b.stand ≡ c.stand → c.stand.device.tasks ≡ [] → TurnsTold told behind n a b → WrotePart b.telling.written c.telling.written (told b.telling.teller closed) → DoneInPart told behind frames.End a c
   end_in_part n a b c same empty turns part = record {
-    answers = map replied turns.replies ++ ended ∷ [];
-    some = omega (arith, length-append (map replied turns.replies) (ended ∷ []));
+    answers = map replied turns.replies ++ closed ∷ [];
+    some = omega (arith, length-append (map replied turns.replies) (closed ∷ []));
     carried = inl (carried_end n a.stand c.stand turns.replies turns.deep (subst (λ s. TurnsOf n a.stand.device turns.replies s.device turns.deep) same turns.turns) (subst (λ s. IsDeep a.stand.tally → turns.deep ≤ s.tally.deepest) same turns.covered) empty);
     tallied = end_tallied n a.stand c.stand (subst (λ s. IsTallied (frames.Turn n) a.stand s) same turns.tallied);
-    told_so = told_part told behind a.telling b.telling c.telling (map replied turns.replies) (ended ∷ []) turns.told_so (part_one told behind b.telling c.telling ended part);
+    told_so = told_part told behind a.telling b.telling c.telling (map replied turns.replies) (closed ∷ []) turns.told_so (part_one told behind b.telling c.telling closed part);
   }
 
   pub end_cut : (n : ℕ) (a c : Scene T) → SomeTurnsTold told behind n a c → DoneInPart told behind frames.End a c

@@ -10,7 +10,7 @@ use Rattle.satl_base.specs.declared.reply.Response.{Response}
 use Rattle.satl_base.specs.declared.request.Tag.{Tag}
 use Rattle.satl_frame.specs.Faults.{reason_code}
 use Rattle.satl_frame.specs.Output.{Answer, sent_data}
-use Rattle.satl_frame.specs.Output.Answer.{replied, managed, ended}
+use Rattle.satl_frame.specs.Output.Answer.{replied, managed, closed}
 use Rattle.satl_frame.specs.declared.frames.Reason.{Reason}
 use Rattle.satl_frame.specs.declared.frames.OutFrame.{OutFrame}
 use Rattle.satl_frame.specs.declared.frames.OutFrame.TheVariants as written
@@ -58,7 +58,7 @@ fault_line reason offset = line (codes "input fault" ∷ decimal (reason_code re
 abbrev pub answer_line : Answer → List ℕ
 answer_line (replied r) = reply_line r
 answer_line (managed nexus function response tag) = managed_line nexus function response tag
-answer_line ended = end_line
+answer_line closed = end_line
 
 -- the lines of answers, one after another (profile)
 abbrev pub lines : List Answer → List ℕ

@@ -6,7 +6,7 @@ use Rattle.satl_base.specs.declared.reply.Scsi.{Scsi}
 use Rattle.satl_base.specs.declared.reply.Scsi.TheVariants.{Good, CheckCondition, TaskSetFull}
 use Rattle.satl_io.specs.Causes.{total}
 use Rattle.satl_frame.specs.Output.{Answer}
-use Rattle.satl_frame.specs.Output.Answer.{replied, managed, ended}
+use Rattle.satl_frame.specs.Output.Answer.{replied, managed, closed}
 use Rattle.satl_text.specs.declared.summary.Summary.{Summary}
 
 -- one for a status that is this one, by the codes (profile)
@@ -17,19 +17,19 @@ one_for wanted status = if scsi_code status == scsi_code wanted then 1 else 0
 abbrev pub one_with : Scsi → Answer → ℕ
 one_with wanted (replied r) = one_for wanted r.status
 one_with wanted (managed nexus function response tag) = 0
-one_with wanted ended = 0
+one_with wanted closed = 0
 
 -- the bytes of data-in of a reply, whatever the host takes of them (profile)
 abbrev pub data_count : Answer → ℕ
 data_count (replied r) = r.data_len
 data_count (managed nexus function response tag) = 0
-data_count ended = 0
+data_count closed = 0
 
 -- the sum of the values of these bytes (profile)
 abbrev pub data_sum : Answer → ℕ
 data_sum (replied r) = sum (first_bytes r.data_len r.body)
 data_sum (managed nexus function response tag) = 0
-data_sum ended = 0
+data_sum closed = 0
 
 -- the totals of so many requests and these answers (profile)
 abbrev pub summary_of : ℕ → List Answer → Summary

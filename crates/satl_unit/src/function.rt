@@ -3,6 +3,19 @@ ghost use Rattle.std.specs.Prelude.{◌≡◌, ◌↔◌, Some, IsSome, IsTrue};
 ghost use Rattle.satl_base.specs.Lists.{is_in};
 ghost use Rattle.satl_unit.specs.Functions.{function_codes, function_of};
 
+// The codes of the functions (profile).
+const ABORT_TASK: u8 = 0x01;
+
+const ABORT_TASK_SET: u8 = 0x02;
+
+const CLEAR_TASK_SET: u8 = 0x04;
+
+const UNIT_RESET: u8 = 0x08;
+
+const QUERY_TASK: u8 = 0x80;
+
+const QUERY_TASK_SET: u8 = 0x81;
+
 /// The code of I_T NEXUS RESET (profile).
 pub const NEXUS_RESET: u8 = 0x10;
 
@@ -33,13 +46,13 @@ impl Function {
         ensures variant { IsSome result ↔ IsTrue (is_in code function_codes) }
     {
         match code {
-            0x01 => Some(Function::AbortTask),
-            0x02 => Some(Function::AbortTaskSet),
-            0x04 => Some(Function::ClearTaskSet),
-            0x08 => Some(Function::UnitReset),
+            ABORT_TASK => Some(Function::AbortTask),
+            ABORT_TASK_SET => Some(Function::AbortTaskSet),
+            CLEAR_TASK_SET => Some(Function::ClearTaskSet),
+            UNIT_RESET => Some(Function::UnitReset),
             NEXUS_RESET => Some(Function::NexusReset),
-            0x80 => Some(Function::QueryTask),
-            0x81 => Some(Function::QueryTaskSet),
+            QUERY_TASK => Some(Function::QueryTask),
+            QUERY_TASK_SET => Some(Function::QueryTaskSet),
             _ => None,
         }
     }
@@ -50,13 +63,13 @@ impl Function {
         ensures { function_of result ≡ Some self.now }
     {
         match self {
-            Function::AbortTask => 0x01,
-            Function::AbortTaskSet => 0x02,
-            Function::ClearTaskSet => 0x04,
-            Function::UnitReset => 0x08,
+            Function::AbortTask => ABORT_TASK,
+            Function::AbortTaskSet => ABORT_TASK_SET,
+            Function::ClearTaskSet => CLEAR_TASK_SET,
+            Function::UnitReset => UNIT_RESET,
             Function::NexusReset => NEXUS_RESET,
-            Function::QueryTask => 0x80,
-            Function::QueryTaskSet => 0x81,
+            Function::QueryTask => QUERY_TASK,
+            Function::QueryTaskSet => QUERY_TASK_SET,
         }
     }
 }

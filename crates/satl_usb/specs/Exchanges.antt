@@ -9,7 +9,7 @@ use Rattle.satl_frame.specs.DataPages.{pages_of}
 use Rattle.satl_frame.specs.declared.frames.Frame.{Frame}
 use Rattle.satl_frame.specs.declared.frames.Frame.TheVariants as frames
 use Rattle.satl_frame.specs.Output.{Answer}
-use Rattle.satl_frame.specs.Output.Answer.{ended, managed, replied}
+use Rattle.satl_frame.specs.Output.Answer.{closed, managed, replied}
 use Rattle.satl_bot.specs.declared.command.Cbw.{Cbw}
 use Rattle.satl_usb.specs.Items.{Item}
 use Rattle.satl_usb.specs.Wire.{kept_of, kept_on_wire, reply_on_wire}
@@ -57,10 +57,10 @@ pub data Exchange : List Item → List Frame → List (List Answer) → List ℕ
 abbrev pub item_told : ItemTeller → Answer → List ℕ
 item_told t (replied r) = reply_on_wire t.command r
 item_told t (managed nexus function response tag) = []
-item_told t ended = []
+item_told t closed = []
 
 -- and its sense data is kept (profile)
 abbrev pub item_behind : ItemTeller → Answer → ItemTeller
 item_behind t (replied r) = record t { kept = kept_of r }
 item_behind t (managed nexus function response tag) = t
-item_behind t ended = t
+item_behind t closed = t

@@ -1,4 +1,4 @@
--- What reading one item gives.
+-- What reading one item gives (profile).
 use Rattle.std.specs.Prelude.{◌≡◌, ◌≤◌, ◌+◌, ℕ, List, [], length, take, Option, None, Some, Result, IsErrOf}
 use Rattle.std.specs.Io.KnownBytes.{IsAtEnd}
 use Rattle.satl_bot.specs.declared.command.Cbw.{Cbw}

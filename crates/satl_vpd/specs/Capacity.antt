@@ -1,4 +1,4 @@
--- The data of the READ CAPACITY commands.
+-- The data of the READ CAPACITY commands (SBC-3, READ CAPACITY commands).
 use Rattle.std.specs.Prelude.{ℕ, ◌-◌, List, [], ◌∷◌, if◌then◌else◌}
 use Rattle.satl_base.specs.Places.{byte, number, laid, shown_in_4_bytes}
 use Rattle.satl_identify.specs.declared.identity.Identity.{Identity}
