@@ -2,6 +2,7 @@ pub mod Kinds
 pub mod Conflict
 pub mod Eligible
 pub mod Ranged
+pub mod Regions
 pub mod Ending
 pub mod Tasks
 pub mod Blank

@@ -7,6 +7,7 @@ mod entry;
 pub mod laws;
 mod outline;
 mod passed;
+mod regions;
 mod set;
 mod slots;
 

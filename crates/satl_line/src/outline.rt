@@ -111,6 +111,27 @@ impl Outline {
         self.alone || self.write
     }
 
+    /// Whether the task is a barrier or ORDERED.
+    pub(crate) fn is_alone(&self) -> bool
+        ensures { result ≡ self.now.alone }
+    {
+        self.alone
+    }
+
+    /// The lowest block of its span.
+    pub(crate) fn first(&self) -> u64
+        ensures { result ≡ self.now.span.first }
+    {
+        self.span.first
+    }
+
+    /// The highest block of its span.
+    pub(crate) fn last(&self) -> u64
+        ensures { result ≡ self.now.span.last }
+    {
+        self.span.last
+    }
+
     /// Whether one of the two is a barrier or ORDERED: then they conflict.
     pub(crate) fn is_alone_beside(&self, other: &Outline) -> bool
         ensures { result ≡ (self.now.alone || other.now.alone) }

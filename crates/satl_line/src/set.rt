@@ -10,12 +10,14 @@ ghost use Rattle.satl_line.specs.Eligible.{eligible_at};
 ghost use Rattle.satl_line.specs.Tasks.{Adds, AreMasks, AreOwnSlots, IsReadyMask, count_of, entries_of, entry_at, is_named, is_too_much, slots_of, total_blocks, with_body};
 ghost use Rattle.satl_line.specs.Layout.{IsMask, HasNoOther, clear_bit, cleared, held_in, is_unbarred_at, low_byte, mark_of, one_fewer, one_more, tasks_in, with_slot};
 ghost use Rattle.satl_line.specs.Outlines.{AreOutlines, IsOutline, is_of_name, no_outline, outline_in, outlines_in};
+ghost use Rattle.satl_line.specs.Regions.{MayLeaveOut};
 
 use crate::boxed::TaskBox;
 use crate::conflict::conflict;
 use crate::entry::Entry;
 use crate::outline::Outline;
 use crate::passed::Passed;
+use crate::regions::Regions;
 use crate::slots::{first_outside, has_slot};
 use arrayvec::ArrayVec;
 use satl_base::{MOST_HELD, MOST_TASKS, Nexus, NoMemory, Pages, Tag};
@@ -48,12 +50,15 @@ pub struct TaskSet {
     tag_counts: [u8; 256],
     // The places before the first that was found outside some slots: mostly those of the outstanding tasks.
     passed: Passed,
+    // The slots whose tasks may conflict with one that comes: mostly none of many.
+    regions: Regions,
 }
 
 impl Model for TaskSet {
     ghost use Rattle.std.specs.Prelude.{List};
     ghost use Rattle.satl_line.specs.Tasks.{Held};
     ghost use Rattle.satl_line.specs.Layout.{FitTogether, HasPassed, tasks_in};
+    ghost use Rattle.satl_line.specs.Regions.{AreNear};
 
     ghost Value = { List Held };
 
@@ -69,7 +74,7 @@ impl Model for TaskSet {
       blocks = s.blocks;
       active = s.active;
       tag_counts = s.tag_counts;
-    }) × HasPassed s.order.items s.passed };
+    }) × HasPassed s.order.items s.passed × AreNear s.regions s.outlines s.order.items };
 }
 
 impl TaskSet {
@@ -96,6 +101,7 @@ impl TaskSet {
             active: 0,
             tag_counts: no_counts(),
             passed: Passed::none(),
+            regions: Regions::none(),
         })
     }
 
@@ -140,6 +146,7 @@ impl TaskSet {
         self.masks[slot as usize] = mask;
         self.marked |= mask;
         self.active = with_slot(self.active, slot, outline.is_active());
+        self.regions.note(slot, &outline);
         self.outlines[slot as usize] = outline;
         count_up(&mut self.tag_counts, entry.tag);
         self.blocks += blocks;
@@ -160,6 +167,8 @@ impl TaskSet {
         self.marked &= !(1 << slot);
         self.active &= !(1 << slot);
         self.passed = self.passed.without(place, slot);
+        let outline = self.outlines[slot as usize];
+        self.regions.forget(slot, &outline);
         self.free.push(slot);
         let entry = task.entry();
         count_down(&mut self.tag_counts, entry.tag);
@@ -273,16 +282,38 @@ impl TaskSet {
         &self.masks
     }
 
-    /// The slots of the tasks that conflict with a new one, as the bits of a number. Among READs alone, the usual case, no task
+    /// The slots of the tasks that conflict with a new one, as the bits of a number. Where none may, as among READs alone, no task
     /// and no outline is looked at.
     fn mask_for(&self, entry: &Entry, outline: &Outline) -> u64
         requires { IsOutline entry.now outline.now }
         ensures { IsMask (map mark_of self.now) (access_of entry.now) result }
     {
-        if self.active == 0 && !outline.is_active() {
+        let among = self.candidates(entry, outline);
+        if among == 0 {
             return 0;
         }
-        mask_against(&self.slots, &self.outlines, &self.order, entry, outline)
+        mask_against(
+            &self.slots,
+            &self.outlines,
+            &self.order,
+            among,
+            entry,
+            outline,
+        )
+    }
+
+    /// The slots whose tasks may conflict with a new one, as the bits of a number: they are near it, and they write or stand
+    /// alone where it does neither.
+    fn candidates(&self, entry: &Entry, outline: &Outline) -> u64
+        requires { IsOutline entry.now outline.now }
+        ensures { AllByRecursion (MayLeaveOut entry.now result) self.now }
+    {
+        let beside = self.regions.beside(outline);
+        if outline.is_active() {
+            beside
+        } else {
+            beside & self.active
+        }
     }
 }
 
@@ -353,11 +384,12 @@ fn count_down(tag_counts: &mut [u8], tag: Tag)
     tag_counts[low_byte(tag)] -= 1;
 }
 
-/// The slots of the tasks that conflict with this one, as the bits of a number.
+/// The slots of the tasks that conflict with this one, as the bits of a number. Only those among some slots are looked at.
 fn mask_against(
     slots: &[TaskBox],
     outlines: &[Outline],
     order: &[u8],
+    among: u64,
     entry: &Entry,
     outline: &Outline,
 ) -> u64
@@ -365,15 +397,36 @@ fn mask_against(
     requires small { AllByRecursion (λ slot. slot < 64) order.now }
     requires told { AreOutlines slots.now outlines.now order.now }
     requires own { IsOutline entry.now outline.now }
+    requires left_out { AllByRecursion (MayLeaveOut entry.now among) (tasks_in slots.now order.now) }
     ensures { IsMask (map mark_of (tasks_in slots.now order.now)) (access_of entry.now) result }
 {
     let mut mask = 0u64;
     for slot in order {
-        if conflicts_in(slots, outlines, *slot, entry, outline) {
+        if conflicts_among(slots, outlines, among, *slot, entry, outline) {
             mask |= 1 << *slot;
         }
     }
     mask
+}
+
+/// Whether the task in a slot conflicts with this one. That is only asked where the slot is among those whose tasks may.
+fn conflicts_among(
+    slots: &[TaskBox],
+    outlines: &[Outline],
+    among: u64,
+    slot: u8,
+    entry: &Entry,
+    outline: &Outline,
+) -> bool
+    requires small { slot < 64 }
+    requires room { length slots.now ≡ 64 }
+    requires wide { length outlines.now ≡ 64 }
+    requires told { IsOutline (held_in slots.now slot).entry (outline_in outlines.now slot) }
+    requires own { IsOutline entry.now outline.now }
+    requires left_out { MayLeaveOut entry.now among (held_in slots.now slot) }
+    ensures { result ≡ conflicts (held_in slots.now slot).entry entry.now }
+{
+    has_slot(among, slot) && conflicts_in(slots, outlines, slot, entry, outline)
 }
 
 /// Whether the task in a slot conflicts with this one. The outlines are asked first, and the task where they leave it open.
@@ -561,6 +614,13 @@ mod tests {
             ((top - 1, 9), none, (top - 2, 1), none, true),
             ((top - 1, 9), none, (top - 2, 2), none, false),
             ((top - 1, 9), none, none, (top, u32::MAX), false),
+            // Stretches of 64 blocks, and 256 of them before a region comes again.
+            ((60, 8), none, (67, 1), none, false),
+            ((60, 8), none, (68, 1), none, true),
+            ((64, 64), none, (127, 2), none, false),
+            ((0, 200), none, (100, 1), none, false),
+            ((100, 1), none, (0, 200), none, false),
+            ((100, 8), none, (100 + 64 * 256, 8), none, true),
         ];
         for (first, second, behind, last, passes) in cases {
             let mut set = TaskSet::new(rt.alloc())?;

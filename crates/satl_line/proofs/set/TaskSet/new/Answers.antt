@@ -1,5 +1,5 @@
 use Rattle.std.proofs.Common.{ap, arith, length}
-use Rattle.satl_line.proofs.SlotsLemmas.{free_more, sound_new}
+use Rattle.satl_line.proofs.SlotsLemmas.{free_more, near_none, sound_new}
 use Rattle.satl_line.proofs.set.TaskSet.new.Goals as goal
 
 pub loop-slot-preserved : goal.loop-slot-preserved
@@ -15,4 +15,5 @@ invariant_of-result c = (
   sound_new c.loop-slot.slots.items c.no_outlines.result c.loop-slot.free.items c.no_masks.result c.new-2.result.items c.no_counts.result (ap length c.no_outlines.ensures) (omega (arith, c.loop-slot.invariant.slots)) c.new-2.ensures c.no_masks.ensures c.no_counts.ensures (omega (arith, c.loop-slot.invariant.free))
       c.loop-slot.invariant.up_to.small (λ q lt. c.loop-slot.invariant.up_to.once q (omega arith)),
   c.none.ensures c.new-2.result.items,
+  near_none c.none-2.result c.no_outlines.result c.new-2.result.items c.none-2.ensures c.new-2.ensures,
 )

@@ -6,6 +6,7 @@ invariant_of-self c = (
   (changes _ c.args.self.now c.args.place c.deref.result.now c.args.body c.swap_body.new.slots.items
       c.self.invariant.0 c.self.view_is c.requires.within c.deref.ensures.0 c.swap_body.ensures.items).sound,
   c.self.invariant.1,
+  c.self.invariant.2,
 )
 
 pub returns : goal.returns

@@ -2,7 +2,7 @@ use Rattle.std.proofs.Common.{refl, ◌∙◌, ap, arith, length}
 use Rattle.std.proofs.lemmas.List.{length-map}
 use Rattle.satl_line.specs.Layout.{held_in, one_fewer}
 use Rattle.satl_line.proofs.PassedLemmas.{without_slot}
-use Rattle.satl_line.proofs.SlotsLemmas.{leaves}
+use Rattle.satl_line.proofs.SlotsLemmas.{leaves, near_without, slot_gone}
 use Rattle.satl_line.proofs.set.TaskSet.remove.Goals as goal
 
 pub count_down-requires-clause-some : goal.count_down-requires-clause-some
@@ -25,6 +25,8 @@ invariant_of-self c =
       left.sound,
       without_slot c.self.inside.order.items c.remove-slot.new.self.items c.self.inside.free.items c.push.new.self.items c.args.place c.remove-slot.result c.self.inside.passed c.without-self-inside.result
           (omega (arith, length-map c.self.inside.order.items (held_in c.self.inside.slots.items), ap length c.self.view_is, c.requires)) c.remove-slot.ensures.value c.self.invariant.0.taken left.sound.taken c.push.ensures.items left.sound.once c.remove-slot.ensures.items c.without-self-inside.ensures c.self.invariant.1,
+      near_without c.self.inside.regions c.forget.new.self c.self.inside.outlines c.self.inside.order.items c.remove-slot.new.self.items c.args.place c.remove-slot.result c.remove-slot.ensures.items
+          (slot_gone c.remove-slot.new.self.items c.self.inside.free.items c.push.new.self.items c.remove-slot.result c.push.ensures.items left.sound.small left.sound.once) left.sound.taken c.forget.ensures.room c.forget.ensures.others c.self.invariant.2,
     )
 
 pub returns-clause-value : goal.returns-clause-value

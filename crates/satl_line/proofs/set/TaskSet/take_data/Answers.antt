@@ -10,6 +10,7 @@ invariant_of-self c = (
   (changes _ c.args.self.now c.args.place c.deref.result.now c.default.result c.swap_body.new.slots.items
       c.self.invariant.0 c.self.view_is c.requires c.deref.ensures.0 c.swap_body.ensures.items).sound,
   c.self.invariant.1,
+  c.self.invariant.2,
 )
 
 pub returns-clause-value : goal.returns-clause-value
