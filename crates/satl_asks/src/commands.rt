@@ -11,7 +11,7 @@ use satl_cdb::{Command, Illegal, read_unmap_list};
 use satl_mode::select_change;
 use satl_pass::{Pass, pass_of, read_pass};
 
-/// The blocks that a command goes over.
+/// The range that the CDB of a command names, of no block where it names none (SBC-3 5).
 pub fn range_of(command: &Command) -> Range
     ensures { result ≡ range_of command.now }
 {
@@ -115,7 +115,7 @@ pub fn length_fault(command: &Command) -> Option<Illegal>
     }
 }
 
-/// The bytes of data-out that a command needs.
+/// The bytes of data-out that a command needs (SBC-3 5, SPC-4 6).
 pub fn needed(command: &Command) -> u64
     ensures { result ≡ needed command.now }
 {

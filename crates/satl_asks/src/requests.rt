@@ -16,7 +16,7 @@ pub fn goes_before_attentions(code: u8) -> bool
     matches!(code, INQUIRY | REPORT_LUNS | REQUEST_SENSE)
 }
 
-/// Whether a LUN is that of logical unit 0.
+/// Whether a LUN is that of logical unit 0: eight bytes of zero (SAM-5 4.6).
 pub fn is_unit_0(lun: &[u8; 8]) -> bool
     ensures { result ≡ is_unit_0 lun.now }
 {

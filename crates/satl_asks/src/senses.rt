@@ -91,7 +91,7 @@ fn pointer_to(in_cdb: bool, pointer: Option<u16>) -> Extra
     }
 }
 
-/// The sense data of a refused command.
+/// The sense data of a refused command: ILLEGAL REQUEST with its codes, and a pointer where a byte is at fault (SPC-4 4.5.6).
 pub fn refusal_sense(why: Illegal) -> Sense
     ensures { result ≡ refusal_sense why }
 {

@@ -66,10 +66,10 @@ fn follow(
 }
 
 /// Whether a recorded output is that of a run without losses of the direct device over a recorded input. The device is one of
-/// this identity, whose sectors are zeros. `Yes` and `No` for an input all of whose frames are covered; `NotCovered` with the
-/// offset in bytes of the first frame that is not, which is 0 for an input of version 2; `BadInput` with reason and offset
-/// where the input is refused, also where bytes follow END; `NoMemory` where there is none for the sectors or for what the
-/// record asks to be kept (profile).
+/// this identity, whose sectors are zeros and whose mode values are its defaults. `Yes` and `No` for an input all of whose
+/// frames are covered; `NotCovered` with the offset in bytes of the first frame that is not, which is 0 for an input of version
+/// 2; `BadInput` with reason and offset where the input is refused, also where bytes follow END; `NoMemory` where there is none
+/// for the sectors or for what the record asks to be kept (profile).
 pub fn audit(
     alloc: Global,
     identity: &Identity,

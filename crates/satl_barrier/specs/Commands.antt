@@ -47,3 +47,10 @@ pub record GivesIdentifyData (old : DriveState) (given taken : List Block) (new 
   pub pages : taken ≡ record { bytes = old.identify } ∷ drop 1 given
   pub lost : Loses old.cells new.cells
   pub stays : new ≡ record old { cells = new.cells }
+
+-- a drive that was not to change: it is as it was; or entries that its sectors may be left with were lost; or its link was lost
+-- meanwhile (profile)
+pub data IsUndisturbed (old new : DriveState) : Type 0 where
+  untouched : new ≡ old → IsUndisturbed old new
+  written_back : Loses old.cells new.cells → new ≡ record old { cells = new.cells } → IsUndisturbed old new
+  cut_off : IsCutShort [] old new → IsUndisturbed old new

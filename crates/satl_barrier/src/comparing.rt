@@ -18,7 +18,9 @@ use std::sync::ledger::Ledger;
 /// How a range compares with the data-out of a VERIFY (SBC-3, VERIFY commands, BYTCHK).
 #[derive(Clone, Copy, Debug, PartialEq, Eq)]
 pub enum Comparison {
+    /// All blocks are those of the data-out.
     Same,
+    /// Some block is another.
     Differs,
     /// A read flaw stopped it: the lowest flawed address of the range.
     Flawed { lba: u64 },

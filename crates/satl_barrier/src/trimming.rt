@@ -13,8 +13,8 @@ use satl_drive::{Drive, LinkDown};
 use satl_regs::{AtaCommand, trim_bytes};
 use std::sync::ledger::Ledger;
 
-/// Trims ranges that one block of entries can name, on a drive that has trim. The first of the scratch pages holds the entries.
-/// `LinkDown`: the link was lost (SAT-3, UNMAP: DATA SET MANAGEMENT).
+/// Trims ranges that one block of entries can name, on a drive that has trim. The scratch pages are as many afterwards; what
+/// they hold then is not told. `LinkDown`: the link was lost (SAT-3, UNMAP: DATA SET MANAGEMENT).
 pub fn trim<D: Drive, L: Ledger>(
     ranges: &[Range],
     scratch: &mut Pages,

@@ -57,8 +57,8 @@ fn write_piece<D: Drive, L: Ledger>(
 }
 
 /// Writes the same block at each address of a range of 1 to 65,536 blocks, in pieces of 64 blocks upwards, in 1,024 calls at
-/// most. The scratch pages, at least 64, are filled with the block. `LinkDown`: the link was lost (SAT-3, WRITE SAME: WRITE DMA
-/// EXT).
+/// most. The scratch pages, at least 64, are as many afterwards; what they hold then is not told. `LinkDown`: the link was lost
+/// (SAT-3, WRITE SAME: WRITE DMA EXT).
 pub fn write_same<D: Drive, L: Ledger>(
     range: Range,
     block: &Block,

@@ -86,7 +86,7 @@ first_of l r = slice_get (slice_index_or l.attentions r.nexus []) 0
 becomes_at_once : (l : Layer) (d : DriveState) (r : Request) (a : AtOnce) (c : Command) → IsSaid r.cdb l.identity.trim c → (slice_index r.cdb 0 ≡ 0x03 → first_of l r ≡ None) → l.down ≡ d.down → answer_to l r.body c ≡ Err a → direct.becomes (view l d) r c ≡ answered (reply_at_once l.identity l.modes r a)
 becomes_at_once l d r a cdbs.TestUnitReady here none mark e = same_answer l d r (readiness l) a _ (readiness_is l d r mark) e
 becomes_at_once l d r a (cdbs.Inquiry page alloc) here none mark e = inquiry_is l d r page alloc ∙ same_answer l d r (at_once.Tell (datas.Inquiry page) alloc) a _ refl e
-becomes_at_once l d r a (cdbs.ModeSense ten long_lba no_descriptor control page alloc) here none mark e = same_answer l d r (at_once.Tell (datas.Modes (direct.sense_asked ten long_lba no_descriptor control page)) alloc) a _ refl e
+becomes_at_once l d r a (cdbs.ModeSense ten long_lba no_descriptor control page alloc) here none mark e = same_answer l d r (at_once.Tell (datas.Modes (direct.mode_sense_asked ten long_lba no_descriptor control page)) alloc) a _ refl e
 becomes_at_once l d r a cdbs.ReadCapacity10 here none mark e = same_answer l d r (at_once.Tell datas.Capacity10 8) a _ refl e
 becomes_at_once l d r a (cdbs.ReadCapacity16 alloc) here none mark e = same_answer l d r (at_once.Tell datas.Capacity16 alloc) a _ refl e
 becomes_at_once l d r a (cdbs.ReportLuns select alloc) here none mark e = same_answer l d r (at_once.Tell (datas.Luns select) alloc) a _ refl e

@@ -4,7 +4,6 @@ use Rattle.satl_base.specs.Losses.{Loses}
 use Rattle.satl_io.specs.Causes.{Rose}
 use Rattle.satl_identify.specs.Refusals.{identity_of}
 use Rattle.satl_drive.specs.State.{DriveState}
-use Rattle.satl_barrier.specs.Commands.{IsCutShort}
 use Rattle.satl_core.specs.declared.satl.OpenFault.{OpenFault}
 use Rattle.satl_core.specs.declared.satl.OpenFault.TheVariants as faults
 use Rattle.satl_core.specs.Layer.{Layer, Tied}
@@ -31,10 +30,3 @@ abbrev pub IsCause : DriveState → DriveState → OpenFault → Type 0
 IsCause old new (faults.Identity fault) = identity_of old.identify ≡ Err fault
 IsCause old new faults.LinkDown = Rose old.faults new.faults
 IsCause old new faults.NoMemory = Unit {0}
-
--- a drive that was not to change: it is as it was; or entries that its sectors may be left with were lost; or its link was lost
--- meanwhile (profile)
-pub data IsUndisturbed (old new : DriveState) : Type 0 where
-  untouched : new ≡ old → IsUndisturbed old new
-  written_back : Loses old.cells new.cells → new ≡ record old { cells = new.cells } → IsUndisturbed old new
-  cut_off : IsCutShort [] old new → IsUndisturbed old new

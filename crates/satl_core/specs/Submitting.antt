@@ -18,7 +18,7 @@ use Rattle.satl_identify.specs.declared.identity.Identity.{Identity}
 use Rattle.satl_sense.specs.declared.sense.Sense.{Sense}
 use Rattle.satl_regs.specs.Trim.{trim_block}
 use Rattle.satl_unit.specs.declared.attention.Attention.{Attention}
-use Rattle.satl_direct.specs.Arrival.{asks_for, good_with_data, operation_code, reply_to, sense_asked, codes_before_attentions}
+use Rattle.satl_direct.specs.Arrival.{asks_for, good_with_data, operation_code, reply_to, mode_sense_asked, codes_before_attentions}
 use Rattle.satl_direct.specs.Device.{is_of, attentions_left}
 use Rattle.satl_direct.specs.Senses.{attention_sense, link_lost, no_sense, not_ready, out_of_range, overlapped, refusal_sense, sense_text, short_data, unknown_unit}
 use Rattle.satl_direct.specs.Tasks.{asks, needed, range_of, task_for, task_of, task_without_pages}
@@ -78,7 +78,7 @@ answer_to l body commands.TestUnitReady = Err (readiness l)
 answer_to l body (commands.RequestSense descriptor alloc) = Err (at_once.Tell (datas.Sense descriptor no_sense) alloc)
 answer_to l body (commands.Inquiry page alloc) = Err (at_once.Tell (datas.Inquiry page) alloc)
 answer_to l body (commands.ModeSense ten long_lba no_descriptor control page alloc) =
-    Err (at_once.Tell (datas.Modes (sense_asked ten long_lba no_descriptor control page)) alloc)
+    Err (at_once.Tell (datas.Modes (mode_sense_asked ten long_lba no_descriptor control page)) alloc)
 answer_to l body commands.ReadCapacity10 = Err (at_once.Tell datas.Capacity10 8)
 answer_to l body (commands.ReadCapacity16 alloc) = Err (at_once.Tell datas.Capacity16 alloc)
 answer_to l body (commands.ReportLuns select alloc) = Err (at_once.Tell (datas.Luns select) alloc)

@@ -16,7 +16,8 @@ ghost use Rattle.satl_direct.specs.Bench.{Happens};
 ghost use Rattle.satl_core.specs.Benching.{FollowsEvent, StartsAnew, unplugs_after};
 ghost use Rattle.satl_direct.specs.Turn.{Turn};
 ghost use Rattle.satl_core.specs.Layer.{IsTask, Tied, reply_pages, view};
-ghost use Rattle.satl_core.specs.Opening.{IsCause, IsOpened, IsUndisturbed};
+ghost use Rattle.satl_core.specs.Opening.{IsCause, IsOpened};
+ghost use Rattle.satl_barrier.specs.Commands.{IsUndisturbed};
 ghost use Rattle.satl_core.specs.Refilling.{AreKept, Comes};
 ghost use Rattle.satl_asks.specs.Commands.{HasList};
 ghost use Rattle.satl_core.specs.Submitting.{Becomes, CanSubmit, HasLengths, HoldsList, IsCutOf, arrival_calls, is_overlapping, judged, once_judged, trims};
@@ -60,10 +61,13 @@ const POOL_PAGES: u32 = 32_960;
 /// Why the layer is not opened (profile).
 #[derive(Clone, Copy, Debug, PartialEq, Eq, Error)]
 pub enum OpenFault {
+    /// Its IDENTIFY DEVICE data are refused, for this reason.
     #[error("the layer does not serve this drive")]
     Identity(IdentityFault),
+    /// Its link was lost before they were read.
     #[error("the link to the drive is lost")]
     LinkDown,
+    /// There is not the memory.
     #[error("out of memory")]
     NoMemory,
 }
@@ -116,9 +120,9 @@ impl Model for Satl {
 }
 
 impl Satl {
-    /// Opens the layer on a drive with nothing outstanding and in no error state: it asks the drive for its IDENTIFY DEVICE
-    /// data once, and takes all memory that it will use. `Identity`: the layer does not serve such a drive. `LinkDown`: the
-    /// drive's link is lost. `NoMemory` may come before or after the drive is asked (SAT-3; profile).
+    /// Opens the layer on a drive with nothing outstanding and in no error state, whose IDENTIFY DEVICE data fit it: it asks
+    /// the drive for these data once, and takes all memory that it will use. `Identity`: the layer does not serve such a drive.
+    /// `LinkDown`: the drive's link is lost. `NoMemory` may come before or after the drive is asked (SAT-3; profile).
     pub fn open<D: Drive, L: Ledger>(
         alloc: Global,
         drive: &mut D,

@@ -100,14 +100,14 @@ abbrev pub sense_told : Option Attention → Request → Bool → ℕ → Arriva
 sense_told None r descriptor alloc = answered (good_with_data r alloc (sense_spelled descriptor no_sense))
 sense_told (Some what) r descriptor alloc = attended (good_with_data r alloc (sense_spelled descriptor (attention_sense what)))
 
--- INQUIRY: the standard data or a page (SPC-4 6.6)
+-- INQUIRY: the standard data or a page of vital product data (SPC-4 6.6)
 abbrev pub inquiry_text : Device → Option ℕ → List ℕ
 inquiry_text s None = standard_data s.identity true
 inquiry_text s (Some page) = unwrap_or (vpd_page page s.identity) []
 
 -- what a MODE SENSE asks to be shown (SPC-4, MODE SENSE commands)
-abbrev pub sense_asked : Bool → Bool → Bool → ℕ → ℕ → ModeSense
-sense_asked ten long_lba no_descriptor control page = record {
+abbrev pub mode_sense_asked : Bool → Bool → Bool → ℕ → ℕ → ModeSense
+mode_sense_asked ten long_lba no_descriptor control page = record {
   ten = ten;
   long_lba = long_lba;
   no_descriptor = no_descriptor;
@@ -123,7 +123,7 @@ becomes s r commands.TestUnitReady = answered (ready_reply s r)
 becomes s r (commands.RequestSense descriptor alloc) = sense_told (slice_get (attentions_of r.nexus s) 0) r descriptor alloc
 becomes s r (commands.Inquiry page alloc) = answered (good_with_data r alloc (inquiry_text s page))
 becomes s r (commands.ModeSense ten long_lba no_descriptor control page alloc) =
-    answered (good_with_data r alloc (mode_data s.identity s.modes (sense_asked ten long_lba no_descriptor control page)))
+    answered (good_with_data r alloc (mode_data s.identity s.modes (mode_sense_asked ten long_lba no_descriptor control page)))
 becomes s r (commands.ModeSelect ten size) = placed_unless (size == 0) s r (commands.ModeSelect ten size)
 becomes s r (commands.StartStop start no_flush) = placed s r (commands.StartStop start no_flush)
 becomes s r commands.ReadCapacity10 = answered (good_with_data r 8 (capacity_10 s.identity))
@@ -167,8 +167,8 @@ cdb_arrival s r (Ok command) = unless_refused (asks command).fields_fault s r (c
 abbrev pub codes_before_attentions : List ℕ
 codes_before_attentions = inquiry_code ∷ report_luns_code ∷ request_sense_code ∷ []
 
--- the condition of those posted, by nexus, for which a request ends with CHECK CONDITION, if any; REQUEST SENSE tells one too,
--- as data (`sense_told`) (SAM-5 5.14)
+-- the first condition that is posted for the nexus of a request, for which the request ends with CHECK CONDITION; none where it
+-- is one of those three commands, of which REQUEST SENSE tells the condition as data (`sense_told`) (SAM-5 5.14)
 abbrev pub attention_told : List (List Attention) → Request → Option Attention
 attention_told attentions r =
     if is_in (operation_code r) codes_before_attentions then None else slice_get (slice_index_or attentions r.nexus []) 0
@@ -187,7 +187,8 @@ abbrev pub attention_arrival : Option Attention → Device → Request → Arriv
 attention_arrival (Some what) s r = attended (check s r (attention_sense what))
 attention_arrival None s r = code_arrival s r
 
--- to the logical unit: a task of the same nexus and tag, and then the unit attentions (SAM-5, overlapped commands)
+-- to the logical unit, or a REPORT LUNS to any: a task of the same nexus and tag, and then the unit attentions (SAM-5,
+-- overlapped commands)
 abbrev pub unit_arrival : Device → Request → Arrival
 unit_arrival s r =
     if list_any (is_called r.nexus (r.tag).0) s.tasks then overlaps (check s r overlapped)

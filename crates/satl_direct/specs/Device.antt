@@ -4,22 +4,23 @@
 --                  one block
 -- unit             the device, as commands name it
 -- down, up         while the link to its drive is lost, the device is down, and else up
--- glitch           a CRC error that is still to come
+-- glitch           a CRC error that may still come; it need not
 -- pair             a block for an address, with whether it goes through the cache; a write takes the sector's read flaw away
 --                  and leaves its write flaw
 -- written whole    all pairs are, in order (`whole`)
 -- written in part  each pair, in order, is written or left out (`Part`)
 -- written back     a loss of power can leave only the block that a read gives (`settle`); a sector is sound where that block is
 --                  among those that a loss of power can leave
--- ranged task      a READ, a WRITE or a queued UNMAP; all others are barriers. A `RangedTask` is the form read, write or trim;
---                  the barriers that trim, an UNMAP that is not queued and a WRITE SAME that unmaps, have it too. A trim
---                  writes a block of zeros at each address
+-- ranged task      a READ, a WRITE or a queued UNMAP; all others are barriers. A `RangedTask` is a read, a write or a trim with
+--                  its ranges; the barriers that trim, an UNMAP that is not queued and a WRITE SAME that unmaps, have one too.
+--                  A trim writes a block of zeros at each address
 -- conflict         of two tasks, where one is ORDERED or a barrier, or where their ranges meet and one writes
 -- eligible         of a task, where it conflicts with no earlier one
 -- piece            64 blocks
 -- posted, told     a unit attention condition is posted for a nexus, and is told, by which it goes, in one answer. There are
---                  five, in this order of report: POWER ON OCCURRED, BUS DEVICE RESET FUNCTION OCCURRED, I_T NEXUS LOSS
---                  OCCURRED, COMMANDS CLEARED BY ANOTHER INITIATOR, MODE PARAMETERS CHANGED
+--                  five, in this order of report: POWER ON OCCURRED (`PowerOn`), BUS DEVICE RESET FUNCTION OCCURRED
+--                  (`UnitReset`; the function LOGICAL UNIT RESET has this name too), I_T NEXUS LOSS OCCURRED (`NexusLoss`),
+--                  COMMANDS CLEARED BY ANOTHER INITIATOR (`Cleared`), MODE PARAMETERS CHANGED (`ModeChanged`)
 use Rattle.std.specs.Prelude.{ℕ, ◌==◌, not, Bool, List, [], Option, Some, None, slice_index_or, slice_set, drop, filter}
 use Rattle.satl_base.specs.declared.modes.Modes.{Modes}
 use Rattle.satl_base.specs.Cells.{Cell}

@@ -30,16 +30,16 @@ use Rattle.satl_direct.specs.Tasks.{asks, pass_of}
 use Rattle.satl_direct.specs.Attentions.{with_modes_changed}
 use Rattle.satl_direct.specs.Senses.{sense_text, link_lost, miscompare, not_ready, read_error, write_error, crc_error}
 
--- the answer to a task, with the blocks that it read (SAM-5 5.1)
+-- the answer to a task, with its data-in, the blocks that it read (SAM-5 5.1)
 abbrev pub task_reply : Entry → Scsi → List ℕ → List Block → Reply
-task_reply t status sense blocks =
+task_reply t status sense data =
     record {
       nexus = t.nexus;
       tag = t.tag;
       status = status;
       sense = record { items = sense };
-      body = blocks;
-      data_len = 512 * length blocks;
+      body = data;
+      data_len = 512 * length data;
       expected = t.expected;
     }
 
@@ -63,12 +63,12 @@ pub record IsTaskDone (after : Device) (t : Entry) (reply : Reply) (new : Device
 -- the medium error of a task at a flawed address (SPC-4 4.5.6)
 abbrev pub medium_error : RangedTask → ℕ → Sense
 medium_error (ranged_read fua range) lba = read_error lba
-medium_error (ranged_write fua range blocks) lba = write_error lba
+medium_error (ranged_write fua range data) lba = write_error lba
 medium_error (ranged_trim ranges) lba = write_error lba
 
 -- the answer by the outcome on the surface (SAT-3 11)
 abbrev pub outcome_reply : Device → Entry → RangedTask → Outcome → Reply
-outcome_reply s t ranged (ends_done blocks) = task_reply t Good [] blocks
+outcome_reply s t ranged (ends_done data) = task_reply t Good [] data
 outcome_reply s t ranged (ends_flawed lba) = task_check s t (medium_error ranged lba)
 outcome_reply s t ranged ends_glitched = task_check s t crc_error
 
@@ -106,12 +106,12 @@ pub record IsPartlyWritten (writes : List Pair) (s : Device) (t : Entry) (new : 
 -- the block of a WRITE SAME at each address (SBC-3, WRITE SAME commands)
 abbrev pub same_pairs : ℕ → ℕ → List Block → Bool → List Pair
 same_pairs lba count [] cached = []
-same_pairs lba count (block ∷ blocks) cached = pairs_from lba (replicate count block) cached
+same_pairs lba count (block ∷ rest) cached = pairs_from lba (replicate count block) cached
 
--- a WRITE SAME that does not unmap goes over its range upwards, in pieces of 64 blocks. Where the first piece has no write flaw
--- and a glitch is left, it may end with a CRC error. Else it is done, or, where its range has a write flaw, fails with the
--- lowest such address. At a CRC error or a flaw what it writes is written in part (SBC-3, WRITE SAME commands; SPC-4 4.5.6;
--- pieces: profile)
+-- a WRITE SAME that does not unmap. Where the first 64 blocks of its range have no write flaw and a glitch is left, it may end
+-- with a CRC error. Else it is done, or, where its range has a write flaw, fails with the lowest such address. At a CRC error
+-- or a flaw what it writes is written in part, whichever part of the range that is (SBC-3, WRITE SAME commands; SPC-4 4.5.6;
+-- that the first piece alone tells of a CRC error: profile)
 abbrev pub EndsInPieces : Range → Device → Entry → Reply → Device → Type 0
 EndsInPieces range s t reply new =
     let writes : List Pair = same_pairs range.lba range.count t.body s.modes.wce in
@@ -133,16 +133,16 @@ IsCompared range s t reply new =
     ((t.body ≡ nows s.cells range.lba range.count) × IsTaskDone (record s { active = true }) t reply new)
     ⊎ ((t.body ≡ nows s.cells range.lba range.count → ⊥) × IsChecked miscompare s t reply new)
 
--- VERIFY with comparison: a read flaw in its range; else a CRC error, where a glitch is left; or it is compared (SBC-3, VERIFY
--- commands; of CRC errors: profile)
+-- VERIFY with comparison: it fails at a read flaw in its range. Without one it is compared, or, where a glitch is left, may end
+-- with a CRC error (SBC-3, VERIFY commands; of CRC errors: profile)
 abbrev pub EndsCompared : Range → Device → Entry → Reply → Device → Type 0
 EndsCompared range s t reply new =
     MatchOption (first_flaw flaws.Read s.cells range.lba range.count)
     (EndsWithCrcError [] s t reply new ⊎ IsCompared range s t reply new)
     (λ at. IsChecked (read_error at) s t reply new)
 
--- every sector is written back, also those outside the range of the command (SBC-3, SYNCHRONIZE CACHE; that its range is not
--- looked at: profile)
+-- every sector is written back, also those outside the range of the command (SBC-3, SYNCHRONIZE CACHE; that its range counts on
+-- arrival alone, where it has to lie within the capacity: profile)
 abbrev pub settled : Device → Device
 settled s = record s { cells = map settle s.cells }
 
@@ -227,8 +227,8 @@ pub record EndsPassed (pass : Pass) (s : Device) (t : Entry) (reply : Reply) (ne
     glitches = after.glitches;
   }
 
--- how a command of a task ends on a device that is up, and started where the command needs that (SBC-3 5, SPC-4 6, SAT-3); all
--- others are answered on arrival, and are no tasks
+-- how a command of a task ends on a device that is up, and started where the command needs that (SBC-3 5, SPC-4 6, SAT-3); a
+-- command without a line here is answered on arrival, and is no task
 abbrev pub EndsBy : Command → Device → Entry → Reply → Device → Type 0
 EndsBy (commands.ModeSelect ten size) s t reply new = IsTaskDone (after_select s t) t reply new
 EndsBy (commands.StartStop start no_flush) s t reply new = IsTaskDone (after_start_stop start no_flush s) t reply new

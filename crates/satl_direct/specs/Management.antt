@@ -28,9 +28,10 @@ found false = Complete
 -- the effect of a function that was asked for by a nexus with a tag. ABORT TASK: the task of this nexus and tag goes. ABORT
 -- TASK SET: all tasks of the nexus go. CLEAR TASK SET: all tasks go, and COMMANDS CLEARED BY ANOTHER INITIATOR is posted for
 -- each other nexus that had one. LOGICAL UNIT RESET: all tasks go, and BUS DEVICE RESET FUNCTION OCCURRED is posted for each
--- nexus. I_T NEXUS RESET: all tasks of the nexus go, and I_T NEXUS LOSS OCCURRED is posted for it. These five answer FUNCTION
--- COMPLETE, also where no task went. QUERY TASK and QUERY TASK SET change nothing, and answer FUNCTION SUCCEEDED where there is
--- a task of this nexus and tag, or for QUERY TASK SET any task of the nexus, else FUNCTION COMPLETE (SAM-5 7.2 to 7.9)
+-- nexus; mode values, and whether the unit is started, stay (that they do: profile). I_T NEXUS RESET: all tasks of the nexus
+-- go, and I_T NEXUS LOSS OCCURRED is posted for it. These five answer FUNCTION COMPLETE, also where no task went. QUERY TASK
+-- and QUERY TASK SET change nothing, and answer FUNCTION SUCCEEDED where there is a task of this nexus and tag, or for QUERY
+-- TASK SET any task of the nexus, else FUNCTION COMPLETE (SAM-5 7.2 to 7.9)
 abbrev pub effect_of : Function → Manage → Device → Effect
 effect_of AbortTask m s = record { goes = is_called m.nexus (m.tag).0; attentions = s.attentions; response = Complete }
 effect_of AbortTaskSet m s = record { goes = is_of m.nexus; attentions = s.attentions; response = Complete }
@@ -62,7 +63,7 @@ abbrev pub has_unit : Option Function → Bool
 has_unit (Some NexusReset) = false
 has_unit _ = true
 
--- the effect of a function, and that of a code without one (SAM-5 7; profile)
+-- the effect of a function; a code without one has the response FUNCTION REJECTED (SAM-5 7; profile)
 abbrev pub effect_or_none : Option Function → Manage → Device → Effect
 effect_or_none None m s = nothing_but Rejected s
 effect_or_none (Some function) m s = effect_of function m s

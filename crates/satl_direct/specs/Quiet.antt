@@ -16,8 +16,9 @@ use Rattle.satl_direct.specs.Device.{Device}
 use Rattle.satl_direct.specs.Ending.{device_medium, same_pairs}
 use Rattle.satl_direct.specs.Tasks.{pass_of}
 
--- what a command of a task writes, through the cache where WCE is on and FUA is 0; a trim (an UNMAP, queued or not, or a WRITE
--- SAME that unmaps) writes a block of zeros at each address (SBC-3 5, 6.4.5; SAT-3 12.2; zeros: profile)
+-- what a command of a task writes, through the cache where WCE is on and FUA is 0. An UNMAP, queued or not, and a WRITE SAME
+-- that unmaps write a block of zeros at each address, an ATA PASS-THROUGH what the ATA command in its registers writes
+-- (SBC-3 5, 6.4.5; SAT-3 12.2; zeros: profile)
 abbrev pub written_by : Command → Device → Entry → List Pair
 written_by (commands.Write form lba count fua) s t = written_pairs s.modes.wce (ranged_write fua (over lba count) t.body)
 written_by (commands.WriteSame form lba count false) s t = same_pairs lba count t.body s.modes.wce
@@ -50,7 +51,7 @@ pub record IsUnderWay (s : Device) (task : Entry) : Type 0 where
   pub up : s.down ≡ false
   pub eligible : IsEligible s.tasks task
 
--- a pair may show where it may be written before its task has ended: a task under way writes it, and the unit is started or the
+-- a pair may show, that is, be written before its task has ended: a task under way writes it, and the unit is started or the
 -- task is an ATA PASS-THROUGH (profile)
 pub record MayShow (s : Device) (pair : Pair) : Type 0 where
   pub task : Entry

@@ -1,6 +1,7 @@
 -- Runs of the device over the frames of an input (profile). An event is one of these frames: REQUEST, MANAGE, TURN, BENCH or
 -- END; a bench event is what a BENCH frame carries. An answer of an event is a frame of the output: `replied` a REPLY,
--- `managed` a MANAGED, `closed` END; an answer of a step is a reply. `deep` is the greatest depth in what is spoken of.
+-- `managed` a MANAGED, `closed` END; an answer of a step is a reply. `deep` is the greatest `depth` of the device after a turn
+-- or at the end of an event: of some turns, of one event, or of a run.
 use Rattle.std.specs.Prelude.{◌≡◌, ◌≤◌, ℕ, suc, ◌+◌, max, min, not, ◌||◌, if◌then◌else◌, List, [], ◌∷◌, ◌++◌, map, length}
 use Rattle.std.specs.List.{filter, flat_map}
 use Rattle.satl_base.specs.declared.bench.BenchEvent.{BenchEvent}
@@ -121,7 +122,7 @@ CutTurns (frames.Turn n) count = count ≤ n
 CutTurns frames.End count = Unit {0}
 CutTurns _ count = ⊥
 
--- an event that asks for turns was cut short between two of them, and one was taken at least (profile)
+-- an event that asks for turns was cut short behind one of them, be it the last (profile)
 pub record DoesShort (event : Frame) (s : Device) (answers : List Answer) (new : Device) : Type 0 where
   pub count : ℕ
   pub some : 1 ≤ count
@@ -131,12 +132,12 @@ pub record DoesShort (event : Frame) (s : Device) (answers : List Answer) (new :
   pub turns : TurnsOf count s replies new deep
   pub answer : answers ≡ map replied replies
 
--- an event was carried out, or was cut short between two of its turns (profile)
+-- an event was carried out, or was cut short behind one of its turns (profile)
 pub data DoesInPart (event : Frame) (s : Device) (answers : List Answer) (new : Device) : Type 0 where
   does_all : (deep : ℕ) → Does event s answers new deep → DoesInPart event s answers new
   does_some : DoesShort event s answers new → DoesInPart event s answers new
 
--- a run, and one event more, which was carried out or cut short between two of its turns (profile)
+-- a run, and one event more, which was carried out or cut short behind one of its turns (profile)
 pub data RunInPart (first : Device) : List Frame → List (List Answer) → ℕ → Device → Type 0 where
   one_more : {events : List Frame} {groups : List (List Answer)} {losses deep : ℕ} {s new : Device} (event : Frame)
       (now : List Answer)

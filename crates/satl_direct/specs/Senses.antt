@@ -1,4 +1,5 @@
--- The sense data that the device gives (SPC-4 4.5.6, sense keys and additional sense codes).
+-- The sense data that the device gives (SPC-4 4.5.6, sense keys and additional sense codes); those at the end of an ATA
+-- PASS-THROUGH are `status_sense` of satl_pass.
 use Rattle.std.specs.Prelude.{ℕ, Bool, Option, Some, None, List, if◌then◌else◌}
 use Rattle.satl_base.specs.declared.modes.Modes.{Modes}
 use Rattle.satl_cdb.specs.declared.command.Illegal.{Illegal}

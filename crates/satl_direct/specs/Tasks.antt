@@ -3,7 +3,9 @@
 -- named with `fault` gives one, or none. The `form` of a command is the length of its CDB; `form_of` is the layout of an ATA
 -- PASS-THROUGH of 12 or 16 bytes. `Flush` is SYNCHRONIZE CACHE; the last field of a VERIFY is whether it compares (BYTCHK),
 -- that of a WRITE SAME its UNMAP bit; `ten` is whether a MODE command has 10 bytes, `long_lba` LLBAA, `no_descriptor` DBD,
--- `control` PC; `page` of an INQUIRY is None where EVPD is 0.
+-- `control` PC; `page` is PAGE CODE, and of an INQUIRY None where EVPD is 0. `size` is PARAMETER LIST LENGTH, `alloc`
+-- ALLOCATION LENGTH, `descriptor` DESC, `select` SELECT REPORT. Of a request, `body` is the data-out in pages, and `data_len`
+-- its bytes.
 use Rattle.std.specs.Prelude.{ℕ, ◌*◌, ◌==◌, ◌&&◌, not, nat_lt, Bool, true, false, if◌then◌else◌, List, [], ◌∷◌, length, take, get_or, Option, Some, None, Result, Ok, Err}
 use Rattle.std.specs.List.{sum_by}
 use Rattle.satl_base.specs.declared.block.Block.{Block}
@@ -35,11 +37,12 @@ use Rattle.satl_line.specs.Tasks.{without_pages}
 abbrev pub pass_of : List ℕ → Pass
 pass_of cdb = pass_in (form_of cdb) cdb
 
--- what a command asks of the device: the refusal of its fields, where the table of operation codes has not; the range that
--- it goes over; the refusal of its list length; the bytes of data-out that it needs; the refusal of its data-out; the blocks
--- that its task holds; what its task keeps of the data-out, which of a MODE SELECT and an UNMAP is nothing; the ranges of a
--- READ, a WRITE or an UNMAP, and of no other command; the mode values that it sets; and whether it needs the unit started
--- (SBC-3 5, SPC-4 6, SAT-3 12.2; the blocks held: profile)
+-- what a command asks of the device: the refusal of its fields, which an ATA PASS-THROUGH alone can have here (those of all
+-- others are judged by the table of operation codes); the range that its CDB names, which has to lie within the capacity; the
+-- refusal of its list length; the bytes of data-out that it needs; the refusal of its data-out; the blocks that its task holds;
+-- what its task keeps of the data-out, which of a MODE SELECT and an UNMAP is nothing; the ranges by which conflicts are
+-- judged, those of a READ, a WRITE or an UNMAP, and of no other command; the mode values that it sets; and whether it needs the
+-- unit started (SBC-3 5, SPC-4 6, SAT-3 12.2; the blocks held: profile)
 pub record Asks : Type 0 where
   pub fields_fault : Option Illegal
   pub range : Range
@@ -52,7 +55,7 @@ pub record Asks : Type 0 where
   pub change : List Block → Option ModeChange
   pub needs_started : Bool
 
--- it goes over no block, has no data-out, holds nothing, and its task, if it has one, is carried out on a stopped unit too
+-- its CDB names no range, it has no data-out, holds nothing, and its task, if it has one, is carried out on a stopped unit too
 -- (profile)
 abbrev pub nothing : Asks
 nothing = record {
@@ -68,7 +71,7 @@ nothing = record {
   needs_started = false;
 }
 
--- it goes over a range, on a started unit (SBC-3 5)
+-- its CDB names a range, and it needs the unit started (SBC-3 5)
 abbrev pub over_range : ℕ → ℕ → Asks
 over_range lba count = record nothing { range = over lba count; needs_started = true }
 
@@ -149,7 +152,7 @@ asks (commands.WriteSame form lba count true) =
 asks (commands.Unmap size) = asks_unmap size
 asks (commands.Pass cdb) = asks_through cdb (pass_of cdb)
 
--- the range that a command goes over (SBC-3 5)
+-- the range that the CDB of a command names, of no block where it names none (SBC-3 5)
 abbrev pub range_of : Command → Range
 range_of command = (asks command).range
 

@@ -7,7 +7,7 @@ use Rattle.satl_base.proofs.ListsLemmas.{get-map}
 use Rattle.satl_drive.specs.State.{DriveState}
 use Rattle.satl_core.specs.Layer.{Layer}
 use Rattle.satl_core.specs.Opening.{IsCause}
-use Rattle.satl_core.specs.Opening.IsUndisturbed.{untouched, written_back}
+use Rattle.satl_barrier.specs.Commands.IsUndisturbed.{untouched, written_back}
 use Rattle.satl_core.specs.declared.satl.OpenFault.{OpenFault}
 use Rattle.satl_barrier.specs.Leaving.{IsFree}
 use Rattle.satl_fleet.specs.Opening.{IsCauseOfOne, IsLeftAlone, Opens, OpensTo}

@@ -2,7 +2,8 @@
 use Rattle.std.specs.Prelude.{◌≡◌, ◌⊎◌, List, [], ◌∷◌, map}
 use Rattle.satl_drive.specs.State.{DriveState}
 use Rattle.satl_core.specs.Layer.{Layer}
-use Rattle.satl_core.specs.Opening.{IsCause, IsOpened, IsUndisturbed}
+use Rattle.satl_barrier.specs.Commands.{IsUndisturbed}
+use Rattle.satl_core.specs.Opening.{IsCause, IsOpened}
 use Rattle.satl_core.specs.Tie.{TiesQueue}
 use Rattle.satl_core.specs.declared.satl.OpenFault.{OpenFault}
 

@@ -44,7 +44,7 @@ pub record UnitRan (first : UnitStand) (events : List Frame) (groups : List (Lis
   pub deepest : deep ≤ last.drive.deepest
   pub counted : UnitCounted events losses first.drive last.drive
 
--- the same, and the last event was carried out or cut short between two of its turns (profile)
+-- the same, and the last event was carried out or cut short behind one of its turns (profile)
 pub record UnitRanInPart (first : UnitStand) (events : List Frame) (groups : List (List Answer))
     (last : UnitStand) : Type 0 where
   pub losses : ℕ

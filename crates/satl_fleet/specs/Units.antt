@@ -54,7 +54,7 @@ pub record Did (event : Frame) (old : UnitState) (answers : List Answer) (new : 
   pub unplugs : new.drive.unplugs ≡ unplugs_behind event old.drive.unplugs
   pub queue : KeepsDeepest (tally_of old.drive 0) (tally_of new.drive 0)
 
--- a unit did an event, or it was cut short between two of its turns (profile)
+-- a unit did an event, or it was cut short behind one of its turns (profile)
 pub record DidInPart (event : Frame) (old : UnitState) (answers : List Answer) (new : UnitState) : Type 0 where
   pub does : DoesInPart event (device_of old) answers (device_of new)
   pub faults : RoseBy (losses_in event (device_of old) (device_of new)) old.drive.faults new.drive.faults

@@ -42,7 +42,7 @@ impl WriteBuffer {
         buffer
     }
 
-    /// The bytes that wait.
+    /// The bytes that wait (profile).
     pub fn as_slice(&self) -> &[u8]
         ensures { result.now ≡ self.now }
     {

@@ -21,8 +21,8 @@ use satl_io::{Failed, Sink};
 /// What stands before the data of a reply: 12 or 16 bytes, and at most 32 of sense.
 type Front = ArrayVec<u8, 48>;
 
-/// Writes all the bytes (profile), in one write call if the sink takes all that it is given. `Failed` comes only where the
-/// sink's count of faults rose, and then some front of the bytes was written.
+/// Writes all the bytes (profile). No clause counts the write calls: it is one where the sink takes all that it is given.
+/// `Failed` comes only where the sink's count of faults rose, and then some front of the bytes was written.
 pub fn push<K: Sink>(sink: &mut K, bytes: &[u8]) -> Result<(), Failed>
     ensures all { OnOk result (Wrote (K.written sink.old) (K.written sink.new) bytes.now) }
     ensures part { OnErr result (WrotePart (K.written sink.old) (K.written sink.new) bytes.now) }
@@ -38,8 +38,9 @@ pub fn push<K: Sink>(sink: &mut K, bytes: &[u8]) -> Result<(), Failed>
     Ok(())
 }
 
-/// Puts at most 8,192 bytes into a buffer (profile). Where they do not fit, those that wait in it are written first. `Failed`
-/// comes only where the sink's count of faults rose; then some front of what waited and of the bytes was written.
+/// Puts at most 8,192 bytes into a buffer (profile). Of what waits in it, some front may be written, as is where they do not
+/// fit. `Failed` comes only where the sink's count of faults rose; then some front of what waited and of the bytes was written,
+/// and of the buffer nothing is told.
 pub fn gather<K: Sink>(sink: &mut K, buffer: &mut WriteBuffer, bytes: &[u8]) -> Result<(), Failed>
     requires { length bytes.now ≤ 8192 }
     ensures all { OnOk result (Gathers (K.written sink.old) (K.written sink.new) buffer.old buffer.new bytes.now) }
@@ -57,7 +58,7 @@ pub fn gather<K: Sink>(sink: &mut K, buffer: &mut WriteBuffer, bytes: &[u8]) -> 
 }
 
 /// Puts the first `len` bytes that the pages hold into a buffer, in order (profile). `Failed` comes only where the sink's count
-/// of faults rose; then some front of what waited in it and of these bytes was written.
+/// of faults rose; then some front of what waited in it and of these bytes was written, and of the buffer nothing is told.
 pub fn gather_data<K: Sink>(
     sink: &mut K,
     buffer: &mut WriteBuffer,
@@ -216,8 +217,8 @@ fn write_alone<K: Sink>(reply: &Reply, sink: &mut K) -> Result<(), WriteFault>
 }
 
 /// Appends exactly the bytes of the frame to those of the sink (profile). A reply with an `expected` goes out as one of
-/// version 2, with its data cut to that many bytes. A reply with up to 4 KiB of data takes one or two write calls if
-/// the sink takes all that it is given. After a fault some front of the bytes was appended.
+/// version 2, with its data cut to that many bytes. After a fault some front of the bytes was appended. No clause counts the
+/// write calls: a reply with up to 4 KiB of data takes one or two where the sink takes all that it is given.
 pub fn write_frame<K: Sink>(frame: OutFrame, sink: &mut K) -> Result<(), WriteFault>
     requires { CanWrite frame }
     ensures all { OnOk result (Wrote (K.written sink.old) (K.written sink.new) (written_bytes frame.entry)) }

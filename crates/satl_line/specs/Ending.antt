@@ -31,7 +31,7 @@ blocks_read cells (ranged_read fua range) = nows cells range.lba range.count
 blocks_read cells (ranged_write fua range blocks) = []
 blocks_read cells (ranged_trim ranges) = []
 
--- what the end of a ranged task changes: the cells, and how many CRC errors are still to come (profile)
+-- what the end of a ranged task changes: the cells, and how many CRC errors may still come (profile)
 pub record Surface : Type 0 where
   pub cells : List Cell
   pub glitches : ℕ

@@ -48,7 +48,7 @@ pub struct Entry {
     pub blocks: u32,
     /// What it does.
     pub command: Command,
-    /// Its pages: data-out, or room for data-in.
+    /// Its pages: data-out, room for data-in, or the entries of an UNMAP whose trim is queued.
     pub body: Pages,
     /// The range of a READ or WRITE, the ranges of an UNMAP; none for all others.
     pub ranges: ArrayVec<Range, MOST_RANGES>,

@@ -143,7 +143,7 @@ pub record EndsInFull (t : Transfer) (x : Traffic) (old new : Medium) : Type 0 w
   pub data_in : x.taken ≡ t.reads ++ drop (length t.reads) x.given
   pub medium : new ≡ record old { cells = whole old.cells t.writes; active = true }
 
--- a CRC error stops it, only where its data go by DMA and while such errors are still to come, of which it uses up one: what it
+-- a CRC error stops it, only where its data go by DMA and while such errors may still come, of which it uses up one: what it
 -- writes is written in part (ACS-3, ICRC; profile)
 pub record IsGarbled (t : Transfer) (x : Traffic) (old new : Medium) : Type 0 where
   pub by_dma : t.dma ≡ true

@@ -39,7 +39,7 @@ pub record CanHappen (scenario : Scenario) : Type 0 where
   pub groups : run.groups ≡ groups_of scenario
   pub depth : run.deep ≡ scenario.depth
 
--- the scenario is a run, and behind it one event that is cut short between two of its turns; each event has the answers that
+-- the scenario is a run, and behind it one event that is cut short behind one of its turns; each event has the answers that
 -- stand beside it
 pub record CanBeCut (scenario : Scenario) : Type 0 where
   pub earlier : List Frame

@@ -8,7 +8,7 @@ use Rattle.satl_frame.specs.declared.frames.FrameFault.TheVariants.{Bad, ReadFau
 use Rattle.satl_text.specs.Totals.{summary_of}
 use Rattle.satl_text.specs.declared.summary.Summary.{Summary}
 use Rattle.satl_direct.specs.Run.{joined}
-use Rattle.satl_core.specs.Opening.{IsUndisturbed}
+use Rattle.satl_barrier.specs.Commands.{IsUndisturbed}
 use Rattle.satl_step.specs.Runs.{requests_in}
 use Rattle.satl_serve.specs.Completeness.{GoesWell, IsGoodInput, MayStop}
 use Rattle.satl_serve.specs.declared.telling.Form.{Form}

@@ -105,7 +105,7 @@ pub record BrokeInMagic (form : Form) (before after : Spot) : Type 0 where
   pub part : WrotePart before.written after.written (begun form)
   pub run : RunSoFar before.stand after.stand [] []
 
--- frames were read, the last one was carried out or cut short between two of its turns, and those before it, none of which is
+-- frames were read, the last one was carried out or cut short behind one of its turns, and those before it, none of which is
 -- END, were carried out; what is due before it was written whole, and of its answers a front (profile)
 pub record BrokeInAnswers (form : Form) (limit : ℕ) (before after : Spot) : Type 0 where
   pub events : List Frame

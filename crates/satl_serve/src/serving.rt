@@ -68,15 +68,14 @@ impl From<OpenFault> for ServeFault {
 }
 
 /// Serves an input of frames: opens the layer on the drive, and carries out one frame after the other up to END, which ends it.
-/// Answers are written in the form, each before the next frame is read; before frames stands the magic of the output.
-/// `Open`: the layer was not opened, for the reason told, and nothing was read or written; refused IDENTIFY DEVICE data are
-/// told, but for a lost link and want of memory. `BadInput` comes after its FAULT frame or line was written, with the reason
-/// and the offset of the refused frame in bytes. `Read` and `Write` come only where the source's or the sink's count of faults
-/// rose.
-/// An input that can be read to END ends so, or by want of memory or a lost link before anything is read, where neither the
-/// source's nor the sink's count of faults rises and the drive is not refused. It gives the totals of the whole input. The
-/// drive is called at most once for its identity, 1,089 times for each request and 33 times for each task management function
-/// (profile).
+/// The drive has nothing outstanding and is in no error state, and its IDENTIFY DEVICE data fit it. Answers are written in the
+/// form, each before the next frame is read; before frames stands the magic of the output. `Open`: the layer was not opened,
+/// for the reason told, and nothing was read or written; refused IDENTIFY DEVICE data are told, but for a lost link and want of
+/// memory. `BadInput` comes after its FAULT frame or line was written, with the reason and the offset of the refused frame in
+/// bytes. `Read` and `Write` come only where the source's or the sink's count of faults rose. An input that can be read to END
+/// ends so, or by want of memory or a lost link before anything is read, where neither the source's nor the sink's count of
+/// faults rises and the drive is not refused. It gives the totals of the whole input. The drive is called at most once for its
+/// identity, 1,089 times for each request and 33 times for each task management function (profile).
 pub fn serve<S: Source, K: Sink, D: Bench, L: Ledger>(
     alloc: Global,
     form: Form,
@@ -102,7 +101,8 @@ pub fn serve<S: Source, K: Sink, D: Bench, L: Ledger>(
     Ok(counter.totals(requests))
 }
 
-/// The same for who wants no totals (profile): data-in is not summed then, which is a good part of what a READ costs.
+/// The same for who wants no totals, with the same premise (profile): data-in is not summed then, which is a good part of what
+/// a READ costs.
 pub fn serve_uncounted<S: Source, K: Sink, D: Bench, L: Ledger>(
     alloc: Global,
     form: Form,

@@ -16,7 +16,7 @@ use satl_pages::Pool;
 use satl_sense::{Sense, sense_bytes};
 use satl_vpd::{capacity10, capacity16, inquiry, luns, vpd};
 
-/// What the device says of itself in data-in.
+/// What the device says of itself in data-in (profile).
 #[derive(Clone, Copy, Debug, PartialEq, Eq)]
 pub enum Data {
     /// The standard INQUIRY data, or the page of vital product data of a PAGE CODE.
@@ -88,7 +88,7 @@ pub fn data_text(identity: &Identity, modes: &Modes, what: &Data) -> Text
     }
 }
 
-/// A block of the first 512 bytes, with zeros for those that are missing.
+/// A block of the first 512 bytes, with zeros for those that are missing (profile).
 pub fn padded(bytes: &[u8]) -> Block
     ensures { result ≡ padded_block bytes.now }
 {

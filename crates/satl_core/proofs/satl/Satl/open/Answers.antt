@@ -1,6 +1,6 @@
 use Rattle.std.proofs.Common.{refl, sym, ap, ◌∙◌, arith}
 use Rattle.satl_base.proofs.OutcomeLemmas.{any_err}
-use Rattle.satl_core.specs.Opening.IsUndisturbed.{cut_off, untouched, written_back}
+use Rattle.satl_barrier.specs.Commands.IsUndisturbed.{cut_off, untouched, written_back}
 use Rattle.satl_flight.specs.Lending.{Waiting}
 use Rattle.satl_core.specs.Layer.{held_pages}
 use Rattle.satl_barrier.proofs.CommandsLemmas.{cut_nows}
