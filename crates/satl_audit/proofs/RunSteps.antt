@@ -4,7 +4,7 @@ use Rattle.satl_frame.specs.declared.frames.Frame.{Frame}
 use Rattle.satl_frame.specs.Output.{Answer}
 use Rattle.satl_direct.specs.Device.{Device}
 use Rattle.satl_direct.specs.Run.{RunDeep, joined}
-use Rattle.satl_direct.specs.Run.RunDeep.{start, step}
+use Rattle.satl_direct.specs.Run.RunDeep.{start, next_event}
 use Rattle.satl_direct.proofs.Quieting.{joined-push}
 use Rattle.satl_cover.specs.Known.{is_known_frame}
 use Rattle.satl_audit.specs.Skeleton.{Skeleton, bare}
@@ -22,7 +22,7 @@ run_split {first = first} {last = last} (start quiet) z k h = record {
   sane = quiet_sane first last h quiet;
   same = ap (λ (d : Device). d.identity) (quiet_bare first last quiet);
 }
-run_split {first = first} {last = last} (step {events = all} {groups = groups} {losses = losses} {s = s} event now d so_far does) z k h =
+run_split {first = first} {last = last} (next_event {events = all} {groups = groups} {losses = losses} {s = s} event now d so_far does) z k h =
     let r = run_split so_far (omega (arith, z)) (all_front (λ f. is_known_frame first.identity.trim f ≡ true) all event k) h in
     let known : is_known_frame s.identity.trim event ≡ true = ap (λ i. is_known_frame i.trim event) r.same ∙ all_last (λ f. is_known_frame first.identity.trim f ≡ true) all event k in
     let e = event_split first.cells r.deeds s last now r.sane r.behind event d known does (omega (arith, z)) in

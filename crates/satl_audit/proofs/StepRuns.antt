@@ -6,7 +6,7 @@ use Rattle.satl_frame.specs.declared.frames.Frame.{Frame}
 use Rattle.satl_frame.specs.Output.{Answer}
 use Rattle.satl_direct.specs.Device.{Device}
 use Rattle.satl_direct.specs.Run.{RunDeep, joined, losses_in}
-use Rattle.satl_direct.specs.Run.RunDeep.{start, step}
+use Rattle.satl_direct.specs.Run.RunDeep.{start, next_event}
 use Rattle.satl_direct.proofs.Quieting.{quiet_none, joined-push}
 use Rattle.satl_audit.specs.Deeds.{Deed, DoneBy, Walks}
 use Rattle.satl_cover.specs.Known.{is_known_frame}
@@ -40,7 +40,7 @@ run_more first all answers now cells new_cells s new event deeds k e w m =
       groups = m.groups ++ now ∷ [];
       losses = m.losses + losses_in event m.last x.new;
       deep = max m.deep x.deep;
-      run = step event now x.deep m.run x.does;
+      run = next_event event now x.deep m.run x.does;
       none = omega (arith, m.none, x.no_loss);
       answers_are = ap (λ l. l ++ now) m.answers_are ∙ sym (joined-push m.groups now);
       bared_is = x.bared_is;

@@ -1,4 +1,5 @@
--- The parameter list of UNMAP (SBC-3 5.28.2, UNMAP parameter list; the limits are the profile's).
+-- The parameter list of UNMAP (SBC-3 5.28.2, UNMAP parameter list; the limits, and that a list whose descriptors go past its
+-- end is refused: profile).
 use Rattle.std.specs.Prelude.{ℕ, zero, suc, ◌+◌, ◌*◌, ◌/◌, nat_lt, List, [], ◌∷◌, Option, Some, None, filter, if◌then◌else◌}
 use Rattle.byteorder.specs.Endian.{big_number}
 use Rattle.satl_base.specs.declared.block.Block.{Block}

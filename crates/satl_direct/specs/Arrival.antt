@@ -1,4 +1,4 @@
--- What a request does when it arrives (SAM-5 5, SPC-4, SBC-3; the order of the steps: profile).
+-- What a request does when it arrives (SAM-5 5, SPC-4, SBC-3; the order of the tests: profile).
 use Rattle.std.specs.Prelude.{◌≡◌, ℕ, ◌+◌, ◌==◌, not, ◌&&◌, ◌||◌, nat_lt, Bool, true, false, if◌then◌else◌, List, [], ◌∷◌, ◌++◌, length, take, slice_get, slice_index, unwrap_or, Option, Some, None, Result, Ok, Err, slice_index_or}
 use Rattle.std.specs.List.{list_any}
 use Rattle.satl_base.specs.declared.request.Request.{Request}
@@ -37,12 +37,12 @@ asks_for code r = operation_code r == code
 
 -- an answer without data (SAM-5 5.1)
 abbrev pub reply_to : Request → Scsi → List ℕ → Reply
-reply_to r status sense =
+reply_to r status sense_bytes =
     record {
       nexus = r.nexus;
       tag = r.tag;
       status = status;
-      sense = record { items = sense };
+      sense = record { items = sense_bytes };
       body = [];
       data_len = 0;
       expected = r.expected;
@@ -70,8 +70,8 @@ abbrev pub is_unit_0 : List ℕ → Bool
 is_unit_0 lun = is_zeros lun
 
 -- what becomes of a request: it is answered at once and nothing changes; or with the first unit attention condition of its
--- nexus, which is told by that; or it overlaps a task, and all tasks of its nexus go without an answer; or it is a task from
--- now on (SAM-5 5)
+-- nexus, which is told by that; or it overlaps a task: then it alone is answered, and all tasks of its nexus go without an
+-- answer; or it is a task from now on (SAM-5 5)
 pub data Arrival : Type 0 where
   answered : Reply → Arrival
   attended : Reply → Arrival

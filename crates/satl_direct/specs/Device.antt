@@ -1,19 +1,23 @@
 -- The direct device: a SCSI block device as a host sees it (SAM-5, logical unit; SBC-3 4). Words of the crates below:
 --
--- drive            the ATA disk behind the device; a sector is one of its blocks, and a page is 512 bytes of memory, room for
---                  one block
+-- drive            the ATA disk behind the device. A block is 512 bytes; a sector, or cell (`Cell`), is a place of the drive
+--                  for a block; a page is 512 bytes of memory, room for one block
 -- unit             the device, as commands name it
+-- nexus            who asks, an I_T nexus of SAM-5, by its number: there are four, 0 to 3
+-- step             one request arrives, one turn is taken, one task management function is carried out, or one bench event
+--                  happens; an event of a run is a whole frame, and a TURN or an END may have many steps
 -- down, up         while the link to its drive is lost, the device is down, and else up
 -- glitch           a CRC error that may still come; it need not
 -- pair             a block for an address, with whether it goes through the cache; a write takes the sector's read flaw away
 --                  and leaves its write flaw
 -- written whole    all pairs are, in order (`whole`)
 -- written in part  each pair, in order, is written or left out (`Part`)
--- written back     a loss of power can leave only the block that a read gives (`settle`); a sector is sound where that block is
---                  among those that a loss of power can leave
--- ranged task      a READ, a WRITE or a queued UNMAP; all others are barriers. A `RangedTask` is a read, a write or a trim with
---                  its ranges; the barriers that trim, an UNMAP that is not queued and a WRITE SAME that unmaps, have one too.
---                  A trim writes a block of zeros at each address
+-- written back     of a sector: a loss of power can leave only the block that a read gives (`settle`). In a quiet move a cache
+--                  may write back less: then a loss of power can leave fewer blocks than before (`Moves`). A sector is sound
+--                  where the block that a read gives is among those that a loss of power can leave
+-- ranged task      a READ, a WRITE or a queued UNMAP; all others are barriers. The type `RangedTask` is wider: it is what is
+--                  done to ranges, a read, a write or a trim, and so also what an UNMAP that is not queued and a WRITE SAME
+--                  that unmaps do, though these are barriers. A trim writes a block of zeros at each address
 -- conflict         of two tasks, where one is ORDERED or a barrier, or where their ranges meet and one writes
 -- eligible         of a task, where it conflicts with no earlier one
 -- piece            64 blocks

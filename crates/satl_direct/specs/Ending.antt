@@ -32,14 +32,14 @@ use Rattle.satl_direct.specs.Senses.{sense_text, link_lost, miscompare, not_read
 
 -- the answer to a task, with its data-in, the blocks that it read (SAM-5 5.1)
 abbrev pub task_reply : Entry → Scsi → List ℕ → List Block → Reply
-task_reply t status sense data =
+task_reply t status sense_bytes data_in =
     record {
       nexus = t.nexus;
       tag = t.tag;
       status = status;
-      sense = record { items = sense };
-      body = data;
-      data_len = 512 * length data;
+      sense = record { items = sense_bytes };
+      body = data_in;
+      data_len = 512 * length data_in;
       expected = t.expected;
     }
 
@@ -63,12 +63,12 @@ pub record IsTaskDone (after : Device) (t : Entry) (reply : Reply) (new : Device
 -- the medium error of a task at a flawed address (SPC-4 4.5.6)
 abbrev pub medium_error : RangedTask → ℕ → Sense
 medium_error (ranged_read fua range) lba = read_error lba
-medium_error (ranged_write fua range data) lba = write_error lba
+medium_error (ranged_write fua range data_out) lba = write_error lba
 medium_error (ranged_trim ranges) lba = write_error lba
 
 -- the answer by the outcome on the surface (SAT-3 11)
 abbrev pub outcome_reply : Device → Entry → RangedTask → Outcome → Reply
-outcome_reply s t ranged (ends_done data) = task_reply t Good [] data
+outcome_reply s t ranged (ends_done data_in) = task_reply t Good [] data_in
 outcome_reply s t ranged (ends_flawed lba) = task_check s t (medium_error ranged lba)
 outcome_reply s t ranged ends_glitched = task_check s t crc_error
 

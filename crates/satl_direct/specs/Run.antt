@@ -99,7 +99,7 @@ losses_in _ old new = losses_of old new
 -- last device, and the greatest depth after an event or a turn (profile)
 pub data RunDeep (first : Device) : List Frame → List (List Answer) → ℕ → Device → ℕ → Type 0 where
   start : {s : Device} → Quiet first s → RunDeep first [] [] 0 s 0
-  step : {events : List Frame} {groups : List (List Answer)} {losses deep : ℕ} {s new : Device} (event : Frame)
+  next_event : {events : List Frame} {groups : List (List Answer)} {losses deep : ℕ} {s new : Device} (event : Frame)
       (now : List Answer) (deep_now : ℕ)
       → RunDeep first events groups losses s deep → Does event s now new deep_now
       → RunDeep first (events ++ event ∷ []) (groups ++ now ∷ []) (losses + losses_in event s new) new (max deep deep_now)

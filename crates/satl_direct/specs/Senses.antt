@@ -1,5 +1,6 @@
--- The sense data that the device gives (SPC-4 4.5.6, sense keys and additional sense codes); those at the end of an ATA
--- PASS-THROUGH are `status_sense` of satl_pass.
+-- The sense data that the device gives (SPC-4 4.5.6, sense keys and additional sense codes); those of an ATA PASS-THROUGH whose
+-- ATA command was carried out are `status_sense` of satl_pass. `Sense` is what sense data say: key, additional sense codes and
+-- what stands beside them; `text` and `spelled` in a name say that it gives the bytes.
 use Rattle.std.specs.Prelude.{ℕ, Bool, Option, Some, None, List, if◌then◌else◌}
 use Rattle.satl_base.specs.declared.modes.Modes.{Modes}
 use Rattle.satl_cdb.specs.declared.command.Illegal.{Illegal}

@@ -1,5 +1,5 @@
 //! What the steps of the device come to: arrivals, turns, ends, task management functions and events of a test bench.
-ghost use Rattle.std.specs.Prelude.{◌≡◌, ◌+◌, ◌<◌, ◌≤◌, ℕ, Bool, true, false, List, [], ◌∷◌, ◌++◌, Option, Some, None, map, length, min};
+ghost use Rattle.std.specs.Prelude.{◌≡◌, ◌+◌, ◌<◌, ◌≤◌, ℕ, Bool, true, false, List, [], ◌∷◌, ◌++◌, Option, Some, None, map, length, min, not, filter};
 ghost use Rattle.std.specs.List.{list_any};
 ghost use Rattle.satl_base.specs.declared.bench.BenchEvent.TheVariants as events;
 ghost use Rattle.satl_base.specs.declared.bench.Which.TheVariants as flaws;
@@ -9,6 +9,7 @@ ghost use Rattle.satl_base.specs.declared.reply.Scsi.TheVariants.{Good, TaskSetF
 ghost use Rattle.satl_base.specs.declared.request.Manage.{Manage};
 ghost use Rattle.satl_base.specs.declared.request.Request.{Request};
 ghost use Rattle.satl_base.specs.Cells.{first_flaw, nows, settle};
+ghost use Rattle.satl_base.specs.Lists.{is_in};
 ghost use Rattle.satl_cdb.specs.declared.command.Command.{Command};
 ghost use Rattle.satl_cdb.specs.declared.command.Command.TheVariants as commands;
 ghost use Rattle.satl_cdb.specs.declared.command.Form.{Form};
@@ -59,14 +60,15 @@ pub fn an_overlap_takes_all_tasks_of_its_nexus()
         (answers ≡ check s r overlapped ∷ []) × (new.tasks ≡ of_others r.nexus s.tasks) }
 {}
 
-/// Law of unit attentions: INQUIRY, REPORT LUNS and REQUEST SENSE are carried out before a condition is told; TEST UNIT READY
-/// is answered with the first one (SAM-5 5.14).
+/// Law of unit attentions: INQUIRY, REPORT LUNS and REQUEST SENSE are carried out before a condition is told; every other
+/// command is answered with the first one (SAM-5 5.14).
 pub fn three_commands_come_before_a_unit_attention()
     ensures inquiry { (s : Device) (r : Request) → operation_code r ≡ 0x12 → attention_for s r ≡ None }
     ensures report_luns { (s : Device) (r : Request) → operation_code r ≡ 0xA0 → attention_for s r ≡ None }
     ensures request_sense { (s : Device) (r : Request) → operation_code r ≡ 0x03 → attention_for s r ≡ None }
-    ensures others { (s : Device) (r : Request) (what : Attention) (rest : List Attention) → operation_code r ≡ 0x00 →
-        attentions_of r.nexus s ≡ what ∷ rest → attention_for s r ≡ Some what }
+    ensures others { (s : Device) (r : Request) (what : Attention) (rest : List Attention) →
+        is_in (operation_code r) (0x12 ∷ 0xA0 ∷ 0x03 ∷ []) ≡ false → attentions_of r.nexus s ≡ what ∷ rest →
+        attention_for s r ≡ Some what }
 {}
 
 /// Law of empty transfers: a READ and a WRITE of no block make no task, and are answered as TEST UNIT READY is (SBC-3 5;
@@ -116,10 +118,18 @@ pub fn stopping_writes_all_back()
         (new.cells ≡ map settle s.cells) × (new.started ≡ false) }
 {}
 
-/// Law of management: QUERY TASK changes nothing, and ABORT TASK SET takes the tasks of its nexus alone (SAM-5 7).
+/// Law of management: QUERY TASK and QUERY TASK SET change nothing; ABORT TASK takes the tasks of its nexus and tag alone, and
+/// ABORT TASK SET and I_T NEXUS RESET those of its nexus (SAM-5 7).
 pub fn functions_take_no_other_tasks()
     ensures query { (s new : Device) (m : Manage) (response : Response) → function_of m.function ≡ Some functions.QueryTask →
         IsManaged m s response new → new ≡ s }
+    ensures query_set { (s new : Device) (m : Manage) (response : Response) →
+        function_of m.function ≡ Some functions.QueryTaskSet → IsManaged m s response new → new ≡ s }
+    ensures abort_one { (s new : Device) (m : Manage) (response : Response) → function_of m.function ≡ Some functions.AbortTask →
+        is_unit_0 m.lun ≡ true → IsManaged m s response new →
+        new.tasks ≡ filter (λ t. not (is_called m.nexus (m.tag).0 t)) s.tasks }
+    ensures reset { (s new : Device) (m : Manage) (response : Response) → function_of m.function ≡ Some functions.NexusReset →
+        IsManaged m s response new → new.tasks ≡ of_others m.nexus s.tasks }
     ensures abort { (s new : Device) (m : Manage) (response : Response) → function_of m.function ≡ Some functions.AbortTaskSet →
         is_unit_0 m.lun ≡ true → IsManaged m s response new → new.tasks ≡ of_others m.nexus s.tasks }
 {}

@@ -14,7 +14,7 @@ ghost use Rattle.satl_regs.specs.Commands.{command_in};
 ghost use Rattle.satl_errlog.specs.declared.entry.NcqError.{NcqError};
 ghost use Rattle.satl_drive.specs.declared.drive.Report.TheVariants as reports;
 ghost use Rattle.satl_drive.specs.Bench.{IsPowerCycled, IsStruck, IsUnplugged};
-ghost use Rattle.satl_drive.specs.Queue.{CanIssue, CanPoll, IsIssued, IsPolled, IsReset, Slots, is_tagged, queued_pairs};
+ghost use Rattle.satl_drive.specs.Queue.{CanIssue, CanPoll, IsIssueCutOff, IsIssued, IsPollCutOff, IsPolled, IsReset, IsResetCutOff, Slots, is_tagged, queued_pairs};
 ghost use Rattle.satl_drive.specs.Rules.{CanRun, IsRunCutOff};
 ghost use Rattle.satl_drive.specs.State.{DriveState, IsFit, Outstanding};
 
@@ -88,8 +88,13 @@ pub fn nothing_outlives_a_reset_or_a_failure()
 
 /// Law of lost links: a call that loses the link raises the count of faults, which stands still at its last value (profile).
 pub fn a_lost_link_is_counted()
-    ensures { (old new : DriveState) (r : Registers) (given : List Block) → old.faults < 2 ^ 64 - 1 →
+    ensures run { (old new : DriveState) (r : Registers) (given : List Block) → old.faults < 2 ^ 64 - 1 →
         IsRunCutOff old r given new → old.faults < new.faults }
+    ensures issue { (old new : DriveState) (command : Queued) (pages : List Block) → old.faults < 2 ^ 64 - 1 →
+        IsIssueCutOff old command pages new → old.faults < new.faults }
+    ensures poll { (old new : DriveState) (slots taken : Slots) → old.faults < 2 ^ 64 - 1 →
+        IsPollCutOff old slots taken new → old.faults < new.faults }
+    ensures reset { (old new : DriveState) → old.faults < 2 ^ 64 - 1 → IsResetCutOff old new → old.faults < new.faults }
 {}
 
 /// Law of unplugs: the link is lost, and they are counted one by one (profile).

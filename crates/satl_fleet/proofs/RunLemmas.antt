@@ -9,7 +9,7 @@ use Rattle.satl_frame.specs.Output.{Answer}
 use Rattle.satl_frame.specs.declared.frames.Frame.{Frame}
 use Rattle.satl_drive.specs.State.{DriveState}
 use Rattle.satl_direct.specs.Run.{losses_in}
-use Rattle.satl_direct.specs.Run.RunDeep.{start, step}
+use Rattle.satl_direct.specs.Run.RunDeep.{start, next_event}
 use Rattle.satl_direct.proofs.Quieting.{quiet_none}
 use Rattle.satl_step.specs.Events.{unplugs_behind}
 use Rattle.satl_step.specs.Runs.{KeepsDeepest, tally_of, unplugs_in}
@@ -43,7 +43,7 @@ module _ (first : UnitStand) (events : List Frame) (groups : List (List Answer))
   ran_more did = record {
     losses = r.losses + losses_in event (device_of s) (device_of new);
     deep = max r.deep did.deep;
-    run = step event answers did.deep r.run did.does;
+    run = next_event event answers did.deep r.run did.does;
     deepest = omega (arith, r.deepest, did.queue.rises, did.covered r.counted.covers);
     counted = counted_more events r.losses (losses_in event (device_of s) (device_of new)) first.drive s.drive new.drive event r.counted did.faults did.unplugs did.queue;
   }

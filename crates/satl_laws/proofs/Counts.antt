@@ -9,7 +9,7 @@ use Rattle.satl_frame.specs.Output.Answer.{replied, managed, closed}
 use Rattle.satl_direct.specs.Device.{Device}
 use Rattle.satl_direct.specs.Arrival.{Arrives, arrival}
 use Rattle.satl_direct.specs.Run.{Does, Manages, RunDeep, joined}
-use Rattle.satl_direct.specs.Run.RunDeep.{start, step}
+use Rattle.satl_direct.specs.Run.RunDeep.{start, next_event}
 use Rattle.satl_direct.proofs.Quieting.{joined-push}
 use Rattle.satl_laws.specs.OnceEach.{answers_to, asks_by, removed, taken_off}
 use Rattle.satl_laws.proofs.Cases.{how_many-append}
@@ -65,7 +65,7 @@ module _ (nexus tag : ℕ) where
   pub run_counts : {first last : Device} {events : List Frame} {groups : List (List Answer)} {losses deep : ℕ} (run : RunDeep first events groups losses last deep)
       → how_many (answers_to nexus tag) (joined groups) + mine nexus tag last.tasks + removed nexus tag run ≡ how_many (asks_by nexus tag) events + mine nexus tag first.tasks
   run_counts {first = first} {last = last} (start quiet) = omega (arith, quiet_counts nexus tag first last quiet)
-  run_counts {last = last} (step {events = events} {groups = groups} {s = s} event now d so_far does) =
+  run_counts {last = last} (next_event {events = events} {groups = groups} {s = s} event now d so_far does) =
       omega (
         arith,
         run_counts so_far,

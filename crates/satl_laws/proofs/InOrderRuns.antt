@@ -17,7 +17,7 @@ use Rattle.satl_laws.specs.ArrivalOrder.{is_plain, stops_or_starts, was_done, wr
 use Rattle.satl_laws.specs.OnceEach.{asks_by}
 use Rattle.satl_laws.specs.OrderUnderErrors.{is_mild}
 use Rattle.satl_direct.specs.Run.{Does, RunDeep, joined, losses_in}
-use Rattle.satl_direct.specs.Run.RunDeep.{start, step}
+use Rattle.satl_direct.specs.Run.RunDeep.{start, next_event}
 use Rattle.satl_direct.proofs.Quieting.{joined-push}
 use Rattle.satl_laws.proofs.Cases.{how_many-append}
 use Rattle.satl_laws.proofs.InOrder.{InOrder}
@@ -51,7 +51,7 @@ pushed P xs x h = (all_front P xs [] x h, all_at P xs [] x h)
 run_at : {first last : Device} {events : List Frame} {groups : List (List Answer)} {losses deep : ℕ} (exact : Bool) → RunDeep first events groups losses last deep → length first.cells ≡ first.identity.capacity
     → first.tasks ≡ [] → (exact ≡ true → IsFresh first) → AllByRecursion (MayStand first exact) events → ((nexus tag : ℕ) → how_many (asks_by nexus tag) events < 2) → InOrderAt first exact events (joined groups) last
 run_at {first = first} {last = last} exact (start quiet) size empty fresh fits once = quiet_at first exact [] [] first last quiet (rest_at first exact empty fresh)
-run_at {first = first} {last = last} exact (step {events = events} {groups = groups} {s = s} event now d so_far does) size empty fresh fits once =
+run_at {first = first} {last = last} exact (next_event {events = events} {groups = groups} {s = s} event now d so_far does) size empty fresh fits once =
     let parts = pushed (MayStand first exact) events event fits in
     subst (λ a. InOrderAt first exact (events ++ event ∷ []) a last) (sym (joined-push groups now))
     (does_at first exact event events (joined groups) now s last d size parts.1 once does (run_at exact so_far size empty fresh parts.0 (fewer events event once)))
@@ -79,7 +79,7 @@ event_up trims _ old new now d plain h z up = absurd cc
 run_up : {first last : Device} {events : List Frame} {groups : List (List Answer)} {losses deep : ℕ} (trims : Bool) → RunDeep first events groups losses last deep → losses ≡ 0 → first.down ≡ false
     → AllByRecursion (λ f. is_plain trims f ≡ true) events → last.down ≡ false
 run_up trims (start quiet) z up plain = ap (λ k. k.down) quiet.stays ∙ up
-run_up {last = last} trims (step {events = events} {losses = losses} {s = s} event now d so_far does) z up plain =
+run_up {last = last} trims (next_event {events = events} {losses = losses} {s = s} event now d so_far does) z up plain =
     let parts = pushed (λ f. is_plain trims f ≡ true) events event plain in
     event_up trims event s last now d parts.1 does (omega (arith, z)) (run_up trims so_far (omega (arith, z)) up parts.0)
 

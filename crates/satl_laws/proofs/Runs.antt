@@ -11,7 +11,7 @@ use Rattle.satl_direct.specs.Arrival.{Arrival, arrival}
 use Rattle.satl_direct.specs.Arrival.Arrival.{waits}
 use Rattle.satl_direct.specs.Quiet.{Quiet, writes}
 use Rattle.satl_direct.specs.Run.{Does, RunDeep, joined}
-use Rattle.satl_direct.specs.Run.RunDeep.{start, step}
+use Rattle.satl_direct.specs.Run.RunDeep.{start, next_event}
 use Rattle.satl_direct.proofs.Quieting.{joined-push}
 use Rattle.satl_laws.specs.Untouched.{SparedBy, SparedByNew, SparedIn, SparedThrough, Spares, WithoutPower, is_power}
 use Rattle.satl_laws.proofs.Arrivals.{IsFor, arrival_for}
@@ -40,7 +40,7 @@ pub split : {first last : Device} {all : List Frame} {groups : List (List Answer
     → (before : List Frame) (event : Frame) → all ≡ before ++ event ∷ [] → Split first last before event groups
 split (start quiet) [] event h = absurd cc
 split (start quiet) (b ∷ before) event h = absurd cc
-split {first = first} {last = last} (step {events = events} {groups = groups} {losses = losses} {deep = deep} {s = s} other now d so_far does) before event h =
+split {first = first} {last = last} (next_event {events = events} {groups = groups} {losses = losses} {deep = deep} {s = s} other now d so_far does) before event h =
     let r = same_from_push events before other event h in
     record {
       mid = s;
@@ -62,8 +62,8 @@ record Rests (first last : Device) (groups : List (List Answer)) : Type 0 where
 -- a run of no event is quiet moves, and answers nothing
 rests : {first last : Device} {all : List Frame} {groups : List (List Answer)} {losses deep : ℕ} → RunDeep first all groups losses last deep → all ≡ [] → Rests first last groups
 rests (start quiet) h = record { quiet = quiet; silent = refl }
-rests (step {events = []} event now d so_far does) h = absurd cc
-rests (step {events = e ∷ events} event now d so_far does) h = absurd cc
+rests (next_event {events = []} event now d so_far does) h = absurd cc
+rests (next_event {events = e ∷ events} event now d so_far does) h = absurd cc
 
 -- a run of one event
 pub record Once (first last : Device) (event : Frame) (groups : List (List Answer)) : Type 0 where
@@ -110,6 +110,6 @@ module _ (x : ℕ) where
   pub run_keeps : {first last : Device} {all : List Frame} {groups : List (List Answer)} {losses deep : ℕ} (run : RunDeep first all groups losses last deep)
       → WithoutPower all → SparedThrough x run → AllByRecursion (λ t. WritesItsOwn t.command) first.tasks → Keeps x first last
   run_keeps {first = first} {last = last} (start quiet) calm spared own = quiet_keeps x first last quiet (none_writes first spared own)
-  run_keeps {first = first} {last = last} (step {events = events} {s = s} event now d so_far does) calm spared own =
+  run_keeps {first = first} {last = last} (next_event {events = events} {s = s} event now d so_far does) calm spared own =
       keeps_on x first s last (run_keeps so_far (all_front (λ f. is_power f ≡ false) events [] event calm) spared.0 own)
       (does_keep x event s last now d (all_at (λ f. is_power f ≡ false) events [] event calm) (none_comes_by event s spared.1) does)

@@ -15,7 +15,7 @@ use Rattle.satl_direct.specs.Arrival.{Arrival, arrival}
 use Rattle.satl_direct.specs.Arrival.Arrival.{answered, attended, overlaps, waits}
 use Rattle.satl_direct.specs.Management.{effect}
 use Rattle.satl_direct.specs.Run.{RunDeep, joined}
-use Rattle.satl_direct.specs.Run.RunDeep.{start, step}
+use Rattle.satl_direct.specs.Run.RunDeep.{start, next_event}
 
 -- whether an answer is a reply to this nexus and tag (SAM-5 4.7)
 abbrev pub answers_to : ℕ → ℕ → Answer → Bool
@@ -53,7 +53,7 @@ taken_off frames.End s = []
 abbrev pub removed : ℕ → ℕ → {first last : Device} {events : List Frame} {groups : List (List Answer)} {losses deep : ℕ}
     → RunDeep first events groups losses last deep → ℕ
 removed nexus tag (start quiet) = 0
-removed nexus tag (step {s = s} event now d so_far does) =
+removed nexus tag (next_event {s = s} event now d so_far does) =
     removed nexus tag so_far + how_many (is_called nexus tag) (taken_off event s)
 
 -- law of one answer: from a device without tasks, the replies to a nexus and tag, the tasks of it that wait and those that were

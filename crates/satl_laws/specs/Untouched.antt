@@ -15,7 +15,7 @@ use Rattle.satl_direct.specs.Arrival.Arrival.{answered, attended, overlaps, wait
 use Rattle.satl_direct.specs.Valid.{IsValid}
 use Rattle.satl_direct.specs.Quiet.{writes}
 use Rattle.satl_direct.specs.Run.{RunDeep}
-use Rattle.satl_direct.specs.Run.RunDeep.{start, step}
+use Rattle.satl_direct.specs.Run.RunDeep.{start, next_event}
 
 -- what a read of a sector gives (SBC-3)
 abbrev pub now_at : List Cell → ℕ → Option Block
@@ -45,7 +45,7 @@ SparedIn x _ s = Unit {0}
 abbrev pub SparedThrough : ℕ → {first last : Device} {events : List Frame} {groups : List (List Answer)} {losses deep : ℕ}
     → RunDeep first events groups losses last deep → Type 0
 SparedThrough x {first = first} (start quiet) = SparedBy x first first.tasks
-SparedThrough x (step {s = s} {new = new} event now d so_far does) =
+SparedThrough x (next_event {s = s} {new = new} event now d so_far does) =
     SparedThrough x so_far × SparedIn x event s × SparedBy x new new.tasks
 
 -- a loss of power (profile)

@@ -12,8 +12,8 @@ pub fn each_request_is_answered_once()
     ensures { OnceEach }
 {}
 
-/// Law of durable sectors: once a task that secures a sector has ended with GOOD, and no task writes the sector up to a
-/// loss of power, it has after that the block that it had at the end of the task (SBC-3 4.15).
+/// Law of durable sectors: of a valid device, once a task that secures a sector has ended with GOOD, and no task writes the
+/// sector up to a loss of power, it has after that the block that it had at the end of the task (SBC-3 4.15).
 pub fn secured_sectors_endure_a_loss_of_power()
     ensures { Durable }
 {}

@@ -1,5 +1,5 @@
 -- Which parameter lists of MODE SELECT are refused: their rules, in the order in which they are judged (SPC-4, MODE SELECT
--- commands and 7.5; the refusals: profile).
+-- commands and 7.5; the refusals, and that the short block descriptor is taken also with LONGLBA: profile).
 use Rattle.std.specs.Prelude.{ℕ, zero, suc, ◌+◌, ◌-◌, ◌==◌, ◌&&◌, nat_lt, nat_le, not, bit_and, Bool, true, List, [], ◌∷◌, ◌++◌, map, Option, Some, None, Result, Ok, Err, if◌then◌else◌}
 use Rattle.std.specs.List.{find}
 use Rattle.std.specs.Option.{option_map}

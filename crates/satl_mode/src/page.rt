@@ -40,7 +40,7 @@ fn changeable(identity: &Identity) -> Modes
     }
 }
 
-/// The mode values at power on: WCE 1 where there is a cache, DRA 0 where there is look-ahead, D_SENSE 0 (SPC-4 5.14; profile).
+/// The mode values at power on: WCE 1 where there is a cache, DRA 0 where there is look-ahead, D_SENSE 0 (profile).
 pub fn defaults(identity: &Identity) -> Modes
     ensures { result ≡ defaults identity.now }
 {

@@ -19,7 +19,7 @@ use Rattle.satl_direct.specs.Turn.{Loss, Turn}
 use Rattle.satl_direct.specs.Run.{Does, Manages, MayLose, RunDeep, TurnsOf, depth, losses_in}
 use Rattle.satl_direct.specs.Run.MayLose.{keeps, keeps_and_loses}
 use Rattle.satl_direct.specs.Run.TurnsOf.{none, more}
-use Rattle.satl_direct.specs.Run.RunDeep.{start, step}
+use Rattle.satl_direct.specs.Run.RunDeep.{start, next_event}
 use Rattle.satl_direct.proofs.Quieting.{quiet_none, around_alone}
 use Rattle.satl_scenarios.specs.Scenario.{Step, Scenario, CanHappen, groups_of}
 
@@ -87,7 +87,7 @@ run_on : {first last : Device} {losses depth : ℕ} (steps : List Step) {lost de
 run_on [] events groups r ends_here = rw (append-nil events, append-nil groups) r
 run_on (now ∷ rest) events groups r (next {deep = deep} now_does follows) =
     rw (← append_assoc events (now.event ∷ []) (map (λ (x : Step). x.event) rest), ← append_assoc groups (now.answers ∷ []) (map (λ (x : Step). x.answers) rest))
-    (run_on rest (events ++ now.event ∷ []) (groups ++ now.answers ∷ []) (step now.event now.answers deep r now_does.does) follows)
+    (run_on rest (events ++ now.event ∷ []) (groups ++ now.answers ∷ []) (next_event now.event now.answers deep r now_does.does) follows)
 
 -- a scenario whose steps follow one another is a run
 pub it_can_happen : (scenario : Scenario) → Follows scenario.losses scenario.depth scenario.last 0 0 scenario.first scenario.steps → CanHappen scenario

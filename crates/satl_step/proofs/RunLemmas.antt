@@ -10,7 +10,7 @@ use Rattle.satl_frame.specs.Output.{Answer}
 use Rattle.satl_frame.specs.Pulls.{cut_to}
 use Rattle.satl_direct.specs.Device.{Device}
 use Rattle.satl_direct.specs.Run.{CutTurns, DoesInPart, DoesShort, losses_in}
-use Rattle.satl_direct.specs.Run.RunDeep.{start, step}
+use Rattle.satl_direct.specs.Run.RunDeep.{start, next_event}
 use Rattle.satl_direct.proofs.Quieting.{quiet_none}
 use Rattle.satl_step.specs.Events.{Carried, IsTallied, IsWholeOf, unplugs_behind}
 use Rattle.satl_step.specs.Runs.{AreCounted, KeepsDeepest, RunCutSoFar, RunSoFar, Stand, is_manage, is_request, is_unplug, unplugs_in}
@@ -97,7 +97,7 @@ pub run_more : (before a b : Stand) (events : List Frame) (groups : List (List A
 run_more before a b events groups event whole given r is carried tallied = record {
   losses = r.losses + losses_in whole a.device b.device;
   deep = max r.deep carried.deep;
-  run = step whole given carried.deep r.run (carried.does whole is);
+  run = next_event whole given carried.deep r.run (carried.does whole is);
   covered = λ deep. omega (arith, r.covered deep, tallied.queue.rises, carried.covered (r.counted.queue.covers deep));
   counted = counted_more events r.losses before a b event whole r.counted is tallied;
 }

@@ -30,7 +30,7 @@ impl Model for Attentions {
 }
 
 impl Attentions {
-    /// No condition (SPC-4, Unit attention condition).
+    /// No condition (SAM-5 5.14).
     pub fn none() -> Attentions
         ensures { result ≡ [] }
     {

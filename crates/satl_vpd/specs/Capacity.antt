@@ -15,7 +15,8 @@ shown_last_lba i = shown_in_4_bytes (last_lba i)
 unfoldable pub capacity_10 : Identity → List ℕ
 capacity_10 i = laid 8 (number 0 3 (shown_last_lba i) ∷ number 4 7 512 ∷ [])
 
--- the same in 8 and 4 bytes; LOGICAL BLOCKS PER PHYSICAL BLOCK EXPONENT; LBPME and LBPRZ (SBC-3, READ CAPACITY (16) command)
+-- the same in 8 and 4 bytes; LOGICAL BLOCKS PER PHYSICAL BLOCK EXPONENT; LBPME and LBPRZ (SBC-3, READ CAPACITY (16) command;
+-- that LOWEST ALIGNED LOGICAL BLOCK ADDRESS is 0, whatever word 209 of the IDENTIFY DEVICE data says: profile)
 unfoldable pub capacity_16 : Identity → List ℕ
 capacity_16 i =
     laid 32 (number 0 7 (last_lba i) ∷ number 8 11 512 ∷ byte 13 i.exponent ∷ byte 14 (if i.trim then 0xC0 else 0x00) ∷ [])

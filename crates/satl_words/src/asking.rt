@@ -24,9 +24,9 @@ pub enum WordsFault {
     NoMemory,
 }
 
-/// What the words ask for: plain words what they spell, all others what clap makes of them (profile). `Refused` comes exactly
-/// where words are not plain and clap refuses them for another cause than memory; `NoMemory` where there was not the memory to
-/// ask clap.
+/// What the words ask for: plain words what they spell, all others what clap makes of them (profile). `Refused` comes only
+/// where words are not plain and clap refuses them for another cause than memory; `NoMemory` is free for words that are not
+/// plain.
 pub fn mode_asked(alloc: Global, words: &[RcStr]) -> Result<Mode, WordsFault>
     ensures plain { (mode : Mode) → IsInRange mode → ArePlain (map rc_str_bytes words.now) mode → result ≡ Ok mode }
     ensures asked { IfOk result (λ mode. IsInRange mode × AskFor (map rc_str_bytes words.now) mode) }

@@ -15,5 +15,5 @@ pub returns-clause-request_sense : goal.returns-clause-request_sense
 returns-clause-request_sense c = λ s r is. ap (λ code. if is_in code codes_before_attentions then None else slice_get (attentions_of r.nexus s) 0) is
 
 pub returns-clause-others : goal.returns-clause-others
-returns-clause-others c = λ s r what rest is posted.
-    ap (λ code. if is_in code codes_before_attentions then None else slice_get (attentions_of r.nexus s) 0) is ∙ ap (λ conditions. slice_get conditions 0) posted
+returns-clause-others c = λ s r what rest other posted.
+    ap (λ among. if among then None else slice_get (attentions_of r.nexus s) 0) other ∙ ap (λ conditions. slice_get conditions 0) posted
