@@ -263,7 +263,7 @@ fn bytes_of(command: &Command) -> [u8; 16]
 
 /// The bytes of a command, with zeros after the end of its form. Reserved bits, DPO, IMMED and the control byte are 0,
 /// PF is 1; a number is cut to its field, and a form that the command does not have is written as the one of 16 bytes. Each
-/// command that `read_cdb` gives is read back as it was (SPC-4, SBC-3, SAT-3).
+/// command that `read_cdb` gives is read back as it was, on a drive with trim (SPC-4, SBC-3, SAT-3).
 pub fn write_cdb(command: &Command) -> [u8; 16]
     ensures written { result ≡ cdb_bytes command.now }
     ensures read_back { (cdb : List ℕ) (trim : Bool) → IsBytes cdb → says cdb trim ≡ Ok command.now
