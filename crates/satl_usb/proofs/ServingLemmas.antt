@@ -103,9 +103,9 @@ given_at_once r a b first empty arrives some =
     let x = arrived r a b first arrives in
     by_half x.replies x.answers (around_half r a.device b.device x.replies empty x.step)
   where
-    by_half : (replies : List Reply) → first ≡ map replied replies → Half replies b.device.tasks → b.device.tasks ≡ []
-    by_half replies are (given reply is left) = left
-    by_half replies are (held task is left) = let no : length first ≡ 0 = ap length are ∙ ap (λ l. length (map replied l)) is in absurd (omega (arith, no, some))
+    by_half : (replies : List Reply) → first ≡ map replied replies → Half r replies b.device.tasks → b.device.tasks ≡ []
+    by_half replies are (given reply to is left) = left
+    by_half replies are (held task its is left) = let no : length first ≡ 0 = ap length are ∙ ap (λ l. length (map replied l)) is in absurd (omega (arith, no, some))
 
 -- a layer that shows no task has none
 pub no_tasks : (tasks : List Held) → map task_of (entries_of tasks) ≡ [] → tasks ≡ []
