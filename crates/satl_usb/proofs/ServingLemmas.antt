@@ -75,6 +75,7 @@ both r a b c first second empty arrives arrival_tallied turns turn_tallied =
       turn_tallied = turn_tallied;
       reply = z.reply;
       one = ap (λ l. l ++ second) x.answers ∙ (ap (λ l. map replied x.replies ++ l) y.answers ∙ (sym (map-append x.replies y.replies) ∙ ap (map replied) z.one));
+      its_own = z.its_own;
       none = z.none;
     }
 
