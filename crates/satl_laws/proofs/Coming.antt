@@ -9,7 +9,6 @@ use Rattle.satl_cdb.specs.declared.command.Illegal.{Illegal}
 use Rattle.satl_cdb.specs.Rows.{Rule, broken_rule, unless_broken}
 use Rattle.satl_regs.specs.Commands.{command_in}
 use Rattle.satl_regs.specs.Effects.{Medium, pairs_of}
-use Rattle.satl_pass.specs.declared.pass.Pass.{Pass}
 use Rattle.satl_pass.specs.Fields.{form_of, pass_in}
 use Rattle.satl_pass.specs.Reading.{pass_says, rules}
 use Rattle.satl_direct.specs.Tasks.{asks, fault_in, pass_of}

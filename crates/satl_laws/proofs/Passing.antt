@@ -22,7 +22,7 @@ use Rattle.satl_direct.specs.Senses.{link_lost, not_ready}
 use Rattle.satl_direct.specs.Tasks.{asks}
 use Rattle.satl_direct.specs.Turn.{IsFirst, MayEnd}
 use Rattle.satl_direct.specs.Valid.{AreOwn, HasCome}
-use Rattle.satl_laws.specs.Passing.{CanEnd, ComesAfter, DoNotClash, NonePasses, NonePassesAlone, NoneShows, OthersPass, goes_alone, goes_with_others}
+use Rattle.satl_laws.specs.Passing.{CanEnd, ComesAfter, DoNotClash, NonePasses, NonePassesAlone, NoneShows, NoneShowsAlone, OthersPass, goes_alone, goes_with_others}
 use Rattle.satl_laws.proofs.Asked.{IsAsked, come_asked}
 use Rattle.satl_laws.proofs.Clashing.{conflict_clear, conflict_none, neither_alone, with_others}
 use Rattle.satl_laws.proofs.Eligibles.{before_free}
@@ -125,6 +125,9 @@ none_passes_alone s new reply end earlier after = none_alone s earlier end.task 
 
 pub none_shows : NoneShows
 none_shows s pair shows earlier after = none_clashes s earlier shows.task after (shows.under_way).eligible
+
+pub none_shows_alone : NoneShowsAlone
+none_shows_alone s pair shows earlier after = none_alone s earlier shows.task after (shows.under_way).eligible
 
 pub others_pass : OthersPass
 others_pass s earlier t after up started with_it with_all clear = passes s earlier t after up started with_it with_all clear

@@ -68,10 +68,15 @@ abbrev pub NonePassesAlone : Type 0
 NonePassesAlone = (s new : Device) (reply : Reply) (end : OneEnds s reply new) (earlier : List Entry) →
     ComesAfter s earlier end.task → AllByRecursion (λ t. goes_alone s t || goes_alone s end.task ≡ false) earlier
 
--- a task that shows a block on the medium before its end clashes with no earlier one (SAM-5 8, command order; profile)
+-- a task of which a pair may show on the medium before its end clashes with no earlier one (SAM-5 8, command order; profile)
 abbrev pub NoneShows : Type 0
 NoneShows = (s : Device) (pair : Pair) (shows : MayShow s pair) (earlier : List Entry) →
     ComesAfter s earlier shows.task → AllByRecursion (λ t. DoNotClash t shows.task) earlier
+
+-- nor does it go alone, or one of them (SAM-5 8.6; profile)
+abbrev pub NoneShowsAlone : Type 0
+NoneShowsAlone = (s : Device) (pair : Pair) (shows : MayShow s pair) (earlier : List Entry) →
+    ComesAfter s earlier shows.task → AllByRecursion (λ t. goes_alone s t || goes_alone s shows.task ≡ false) earlier
 
 -- one turn can end the task (SAM-5 8)
 pub record CanEnd (s : Device) (t : Entry) : Type 0 where

@@ -3,7 +3,7 @@ ghost use Rattle.satl_laws.specs.ArrivalOrder.{ArrivalOrder};
 ghost use Rattle.satl_laws.specs.Durable.{Durable};
 ghost use Rattle.satl_laws.specs.OnceEach.{OnceEach};
 ghost use Rattle.satl_laws.specs.OrderUnderErrors.{OrderUnderErrors};
-ghost use Rattle.satl_laws.specs.Passing.{NonePasses, NonePassesAlone, NoneShows, OthersPass};
+ghost use Rattle.satl_laws.specs.Passing.{NonePasses, NonePassesAlone, NoneShows, NoneShowsAlone, OthersPass};
 ghost use Rattle.satl_laws.specs.Untouched.{Untouched};
 
 /// Law of one answer: in a run from a device without tasks, the replies to a nexus and tag, the tasks of it that still
@@ -39,12 +39,14 @@ pub fn each_write_acts_in_order_or_not_at_all()
     ensures { OrderUnderErrors }
 {}
 
-/// Law of passing: no task ends before an earlier one where both go over a sector and one of them writes or trims it, nor where
-/// one of them goes alone, as an ORDERED one does; no block that a task writes shows before such an earlier one has ended;
-/// every other task can end before all earlier ones, where the device is up and started (SAM-5 8, 8.6; SBC-3 5).
+/// Law of passing, of each device that there can be: where a task and an earlier one both go over a sector and one of them
+/// writes or trims it, or where one of them goes alone, as an ORDERED one does, the task does not end before the earlier one,
+/// and no block that it writes shows on the medium before the earlier one has ended; a task for which this is so with no
+/// earlier one can end before all of them, where the device is up and started (SAM-5 8, 8.6; SBC-3 5).
 pub fn no_task_passes_one_that_it_overlaps()
     ensures overlapping { NonePasses }
     ensures alone { NonePassesAlone }
     ensures early { NoneShows }
+    ensures early_alone { NoneShowsAlone }
     ensures others { OthersPass }
 {}

@@ -75,6 +75,7 @@ both r a b c first second empty arrives arrival_tallied turns turn_tallied =
       turn_tallied = turn_tallied;
       reply = z.reply;
       one = ap (λ l. l ++ second) x.answers ∙ (ap (λ l. map replied x.replies ++ l) y.answers ∙ (sym (map-append x.replies y.replies) ∙ ap (map replied) z.one));
+      its_own = z.its_own;
       none = z.none;
     }
 
@@ -103,9 +104,9 @@ given_at_once r a b first empty arrives some =
     let x = arrived r a b first arrives in
     by_half x.replies x.answers (around_half r a.device b.device x.replies empty x.step)
   where
-    by_half : (replies : List Reply) → first ≡ map replied replies → Half replies b.device.tasks → b.device.tasks ≡ []
-    by_half replies are (given reply is left) = left
-    by_half replies are (held task is left) = let no : length first ≡ 0 = ap length are ∙ ap (λ l. length (map replied l)) is in absurd (omega (arith, no, some))
+    by_half : (replies : List Reply) → first ≡ map replied replies → Half r replies b.device.tasks → b.device.tasks ≡ []
+    by_half replies are (given reply to is left) = left
+    by_half replies are (held task its is left) = let no : length first ≡ 0 = ap length are ∙ ap (λ l. length (map replied l)) is in absurd (omega (arith, no, some))
 
 -- a layer that shows no task has none
 pub no_tasks : (tasks : List Held) → map task_of (entries_of tasks) ≡ [] → tasks ≡ []

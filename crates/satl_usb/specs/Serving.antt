@@ -1,7 +1,8 @@
 -- A request and one turn on one unit (profile).
-use Rattle.std.specs.Prelude.{◌≡◌, ℕ, List, [], ◌∷◌, ◌++◌}
+use Rattle.std.specs.Prelude.{◌≡◌, ℕ, true, List, [], ◌∷◌, ◌++◌}
 use Rattle.satl_base.specs.declared.reply.Reply.{Reply}
 use Rattle.satl_base.specs.declared.request.Request.{Request}
+use Rattle.satl_base.specs.Names.{is_name}
 use Rattle.satl_frame.specs.declared.frames.Frame.TheVariants as frames
 use Rattle.satl_frame.specs.Output.{Answer}
 use Rattle.satl_frame.specs.Output.Answer.{replied}
@@ -9,7 +10,7 @@ use Rattle.satl_step.specs.Events.{Carried, IsTallied, Scene}
 use Rattle.satl_step.specs.Runs.{Stand}
 use Rattle.satl_step.specs.Telling.{IsTold, IsToldInPart}
 
--- both were carried out, with one reply, and no task is left (profile)
+-- both were carried out, with one reply, which has the nexus and tag of the request, and no task is left (profile)
 pub record BothCarried (r : Request) (before after : Stand) : Type 0 where
   pub mid : Stand
   pub first : List Answer
@@ -20,6 +21,7 @@ pub record BothCarried (r : Request) (before after : Stand) : Type 0 where
   pub turn_tallied : IsTallied (frames.Turn 1) mid after
   pub reply : Reply
   pub one : first ++ second ≡ replied reply ∷ []
+  pub its_own : is_name r.nexus (r.tag).0 reply.nexus (reply.tag).0 ≡ true
   pub none : after.device.tasks ≡ []
 
 -- and the reply was told (profile)
