@@ -4,7 +4,9 @@ use Rattle.std.specs.Prelude.{◌==◌, ◌||◌, slice_get}
 use Rattle.std.specs.List.{AllByRecursion, IsDistinct, before_first, list_any}
 use Rattle.std.proofs.lemmas.List.Folds.{list_any-append}
 use Rattle.std.proofs.lemmas.List.Sums.{take_while-cons}
+use Rattle.std.proofs.lemmas.Option.{get_or_from_slice_get, slice_get_within}
 use Rattle.satl_line.specs.Tasks.{AreOwnSlots, Held}
+use Rattle.satl_line.proofs.SlotsLemmas.{All-at}
 use Rattle.satl_flight.specs.declared.flight.Flying.{Flying}
 use Rattle.satl_flight.specs.Flown.{is_of_slot, is_outstanding}
 use Rattle.satl_flight.specs.Settled.{IsIssuedIfItMay, IssuesAtMost, IssuesInOrder, IssuesOne, MayIssue, Starts, issued_before}
@@ -26,10 +28,10 @@ before-last p (y ∷ ys) x none is =
     ∙ (elim (p y) as (λ b. (b || list_any p ys) ≡ false → cond (not b) (y ∷ before_first p (ys ++ x ∷ [])) [] ≡ y ∷ ys)
     [ true ↦ λ e. absurd cc | false ↦ λ e. ap (λ zs. y ∷ zs) (before-last p ys x e is) ]) none
 
-All-get : {X : Type 0} (P : X → Type 0) (xs : List X) (i : ℕ) (x : X) → AllByRecursion P xs → slice_get xs i ≡ Some x → P x
-All-get P [] i x all at = absurd cc
-All-get P (y ∷ ys) zero x all at = let one : y ≡ x = cc in subst P one all.0
-All-get P (y ∷ ys) (suc i) x all at = All-get P ys i x all.1 at
+-- no other task lies in the slot of the first
+in_other_slot : (t : Held) (ts : List Held) (place : ℕ) (h : Held) → AllByRecursion (λ (x : Held). (t.slot == x.slot) ≡ false) ts → slice_get ts place ≡ Some h → (t.slot == h.slot) ≡ false
+in_other_slot t ts place h all at =
+    subst (λ (x : Held). (t.slot == x.slot) ≡ false) (get_or_from_slice_get ts place h h at) (All-at (λ (x : Held). (t.slot == x.slot) ≡ false) ts place h (slice_get_within ts place h at) all)
 
 -- two tasks in one slot stand at one place
 one_place : (tasks : List Held) (a b : ℕ) (h k : Held) → AreOwnSlots tasks → slice_get tasks a ≡ Some h → slice_get tasks b ≡ Some k → h.slot ≡ k.slot → a ≡ b
@@ -38,12 +40,12 @@ one_place [] a b h k own at_a at_b same = absurd cc
 one_place (t ∷ ts) zero zero h k own at_a at_b same = refl
 one_place (t ∷ ts) zero (suc b) h k own at_a at_b same =
     let one : t ≡ h = cc in
-    let other : (t.slot == k.slot) ≡ false = All-get (λ (x : Held). (t.slot == x.slot) ≡ false) ts b k own.0 at_b in
+    let other : (t.slot == k.slot) ≡ false = in_other_slot t ts b k own.0 at_b in
     let equal : (t.slot == k.slot) ≡ true = eq-eqb t.slot k.slot (ap (λ (x : Held). x.slot) one ∙ same) in
     absurd cc
 one_place (t ∷ ts) (suc a) zero h k own at_a at_b same =
     let one : t ≡ k = cc in
-    let other : (t.slot == h.slot) ≡ false = All-get (λ (x : Held). (t.slot == x.slot) ≡ false) ts a h own.0 at_a in
+    let other : (t.slot == h.slot) ≡ false = in_other_slot t ts a h own.0 at_a in
     let equal : (t.slot == h.slot) ≡ true = eq-eqb t.slot h.slot (ap (λ (x : Held). x.slot) one ∙ sym same) in
     absurd cc
 one_place (t ∷ ts) (suc a) (suc b) h k own at_a at_b same = ap suc (one_place ts a b h k own.1 at_a at_b same)
