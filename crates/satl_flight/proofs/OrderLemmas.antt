@@ -1,5 +1,5 @@
 -- The order in which tasks are issued.
-use Rattle.std.proofs.Common.{◌≡◌, ◌⊎◌, ⊎_elim, refl, sym, ◌∙◌, ap, subst, inl, inr, ℕ, zero, suc, ◌+◌, ◌<◌, ◌≤◌, not, Bool, true, false, cond, List, [], ◌∷◌, ◌++◌, Option, Some, None, arith, length, length-append, eqb-true, eq-eqb}
+use Rattle.std.proofs.Common.{◌≡◌, ◌⊎◌, ⊎_elim, refl, sym, ◌∙◌, ap, subst, inl, inr, ℕ, zero, suc, ◌+◌, ◌<◌, ◌≤◌, not, Bool, true, false, cond, List, [], ◌∷◌, ◌++◌, Some, arith, length, length-append, eqb-true, eq-eqb}
 use Rattle.std.specs.Prelude.{◌==◌, ◌||◌, slice_get}
 use Rattle.std.specs.List.{AllByRecursion, IsDistinct, before_first, list_any}
 use Rattle.std.proofs.lemmas.List.Folds.{list_any-append}
@@ -9,7 +9,7 @@ use Rattle.satl_line.specs.Tasks.{AreOwnSlots, Held}
 use Rattle.satl_line.proofs.SlotsLemmas.{All-at}
 use Rattle.satl_flight.specs.declared.flight.Flying.{Flying}
 use Rattle.satl_flight.specs.Flown.{is_of_slot, is_outstanding}
-use Rattle.satl_flight.specs.Settled.{IsIssuedIfItMay, IssuesAtMost, IssuesInOrder, IssuesOne, MayIssue, Starts, issued_before}
+use Rattle.satl_flight.specs.Settled.{IsIssuedIfItMay, IssuesAtMost, IssuesInOrder, IssuesOne, Starts, issued_before}
 
 -- what is added behind the first that passes changes nothing before it
 before-append : {X : Type 0} (p : X → Bool) (xs more : List X) → list_any p xs ≡ true → before_first p (xs ++ more) ≡ before_first p xs
