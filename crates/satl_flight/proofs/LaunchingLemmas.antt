@@ -26,7 +26,7 @@ use Rattle.satl_pages.specs.Slots.{pages_at}
 use Rattle.satl_flight.specs.declared.flight.Flying.{Flying}
 use Rattle.satl_flight.specs.Flown.{AreApart, IsFlown, IsInFlight, clash, is_outstanding, is_in_slot, queued_for, is_of_slot}
 use Rattle.satl_flight.specs.Lending.{IsLending, Waiting, has_tag, waiting, whole_task, whole_tasks, with_own_pages}
-use Rattle.satl_flight.specs.Settled.{IsFilled, IsIssuedIfItMay, IsLaunched, IsLostQuietly, OnDrive, on_drive}
+use Rattle.satl_flight.specs.Settled.{IsFilled, IsIssuedIfItMay, IsLaunched, IsLostQuietly, IssuesAtMost, OnDrive, on_drive}
 use Rattle.satl_flight.proofs.ZipLemmas.{IsBefore, found_within, passed_from}
 use Rattle.satl_flight.proofs.FlownLemmas.{FitsOn}
 use Rattle.satl_flight.proofs.LendingLemmas.{at_found, find-none, get-set, lend_lending, lend_same, whole_get, whole-slots}
@@ -150,6 +150,10 @@ module _ (flying : List Flying) (slots : Slots) (tasks : List Held) (lending : I
       last : (fs : List Flying) → is_outstanding (fs ++ record { tag = tag; slot = slot } ∷ []) slot ≡ true
       last [] = ap (λ b. b || false) (eq-eqb slot slot refl)
       last (f ∷ fs) = elim (f.slot == slot) as (λ b. (b || is_outstanding (fs ++ record { tag = tag; slot = slot } ∷ []) slot) ≡ true) [ true ↦ refl | false ↦ last fs ]
+
+  -- it is issued alone
+  pub issued_one : (flown : List Flying) (tag : ℕ) → flown ≡ flying ++ record { tag = tag; slot = slot } ∷ [] → IssuesAtMost (whole_tasks flying slots tasks) place flying flown
+  issued_one flown tag is_flown = inr (record { task = whole_task flying slots (record { slot = slot; entry = entry }); stands = whole_stands; tag = tag; pushed = is_flown })
 
 -- ---- place after place
 

@@ -7,5 +7,6 @@ pub mod SettledLemmas
 pub mod LaunchedLemmas
 pub mod SettlingLemmas
 pub mod LaunchingLemmas
+pub mod OrderLemmas
 pub mod ComingLemmas
 pub mod QueueLemmas

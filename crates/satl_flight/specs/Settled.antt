@@ -1,6 +1,6 @@
 -- What the calls of the flight do (ACS-3, native command queuing; profile).
-use Rattle.std.specs.Prelude.{◌≡◌, ◌⊎◌, ℕ, ◌+◌, ◌≤◌, ◌==◌, true, List, [], ◌++◌, Option, Some, None, if◌then◌else◌, length, slice_get}
-use Rattle.std.specs.List.{remove}
+use Rattle.std.specs.Prelude.{◌≡◌, ◌⊎◌, ℕ, ◌+◌, ◌≤◌, ◌<◌, ◌==◌, true, false, List, [], ◌∷◌, ◌++◌, Option, Some, None, IfSome, MatchOption, if◌then◌else◌, length, slice_get}
+use Rattle.std.specs.List.{before_first, find, remove}
 use Rattle.satl_base.specs.declared.block.Block.{Block}
 use Rattle.satl_base.specs.Cells.{Cell}
 use Rattle.satl_base.specs.Losses.{Loses}
@@ -18,10 +18,11 @@ use Rattle.satl_line.specs.Ranged.{MayPut, RangedTask, ranged_of}
 use Rattle.satl_line.specs.Ranged.RangedTask.{ranged_read, ranged_write, ranged_trim}
 use Rattle.satl_line.specs.Tasks.{Held, entries_of, with_body}
 use Rattle.satl_drive.specs.State.{DriveState}
+use Rattle.satl_drive.specs.Queue.{FailsAtFlaw, FailsByCrc, queued_flaw}
 use Rattle.satl_drive.specs.Rules.{IsLogRead, IsRunCutOff, MaySet}
 use Rattle.satl_flight.specs.declared.flight.Flying.{Flying}
-use Rattle.satl_flight.specs.Flown.{IsInFlight, clash, is_outstanding}
-use Rattle.satl_flight.specs.Lending.{IsLending, Waiting, with_own_pages}
+use Rattle.satl_flight.specs.Flown.{IsInFlight, clash, is_of_slot, is_outstanding, queued_for}
+use Rattle.satl_flight.specs.Lending.{IsLending, Waiting, has_tag, with_own_pages}
 
 -- a queue, and the drive that it is on, at a moment (profile)
 pub record OnDrive : Type 0 where
@@ -124,6 +125,14 @@ pub record HasEndedAt (place : ℕ) (outcome : Outcome) (old new : OnDrive) : Ty
   }
   pub deep : Deepens old.drive new.drive
 
+-- the entry of the error log tells of the task that failed, by its tag: it failed at its lowest flaw, or by a CRC error where it
+-- has none (ACS-3 annex A, log 10h; profile)
+pub record IsEntryOf (task : Held) (ranged : RangedTask) (old new : OnDrive) (e : NcqError) : Type 0 where
+  pub tagged : find (has_tag e.tag) old.queue.flying ≡ Some (record { tag = e.tag; slot = task.slot })
+  pub cause : MatchOption (queued_flaw old.drive.cells (queued_for e.tag ranged))
+      (FailsByCrc (queued_for e.tag ranged) old.drive.glitches new.drive.glitches e)
+      (λ lba. FailsAtFlaw (queued_for e.tag ranged) lba old.drive.glitches new.drive.glitches e)
+
 -- the drive was reset: nothing is outstanding, and each task waits on (profile)
 pub record IsCut (tasks : List Held) (old new : DriveState) : Type 0 where
   pub tie : IsInFlight [] tasks new
@@ -139,6 +148,7 @@ pub record Settles (place : ℕ) (error : Option NcqError) (old new : OnDrive) :
       (on_drive (with_own_pages new.queue) new.drive)
   pub error_is : IsFlawOrCrc error
   pub ranged_is : ranged_of settled.held.entry ≡ Some ranged
+  pub logged : IfSome error (IsEntryOf settled.held ranged old new)
   pub ended : slice_get new.queue.tasks place ≡ Some (with_body body settled.held)
   pub size : length body ≡ length settled.held.entry.body
   pub leaves : IsLending new.queue.flying new.queue.slots (remove new.queue.tasks place)
@@ -167,3 +177,38 @@ abbrev pub IsFilled : List Flying → List Held → Type 0
 IsFilled flying tasks =
     (length flying ≡ 32) ⊎ ((h : Held) (task : RangedTask) → IsEligibleBy clash tasks h → ranged_of h.entry ≡ Some task
     → is_outstanding flying h.slot ≡ true)
+
+-- the task at this place may be issued: it is eligible and ranged (profile)
+pub record MayIssue (tasks : List Held) (place : ℕ) (task : Held) : Type 0 where
+  pub stands : slice_get tasks place ≡ Some task
+  pub eligible : eligible_by clash tasks place ≡ true
+  pub ranged : RangedTask
+  pub ranged_is : ranged_of task.entry ≡ Some ranged
+
+-- the task at this place became outstanding (profile)
+pub record Starts (old new : List Flying) (tasks : List Held) (place : ℕ) (task : Held) : Type 0 where
+  pub stands : slice_get tasks place ≡ Some task
+  pub was_not : is_outstanding old task.slot ≡ false
+  pub is : is_outstanding new task.slot ≡ true
+
+-- what was outstanding as the task in a slot was issued (profile)
+abbrev pub issued_before : ℕ → List Flying → List Flying
+issued_before slot flying = before_first (is_of_slot slot) flying
+
+-- tasks are issued in order of arrival: as a task became outstanding, each earlier task that may be issued was outstanding
+-- (profile; ACS-3, native command queuing)
+abbrev pub IssuesInOrder : List Flying → List Flying → List Held → Type 0
+IssuesInOrder old new tasks =
+    (p q : ℕ) (earlier later : Held) → p < q → MayIssue tasks p earlier → Starts old new tasks q later
+    → is_outstanding (issued_before later.slot new) earlier.slot ≡ true
+
+-- the task at this place was issued, under a tag (profile)
+pub record IssuesOne (tasks : List Held) (place : ℕ) (old new : List Flying) : Type 0 where
+  pub task : Held
+  pub stands : slice_get tasks place ≡ Some task
+  pub tag : ℕ
+  pub pushed : new ≡ old ++ record { tag = tag; slot = task.slot } ∷ []
+
+-- nothing was issued, or the task at this place alone (profile)
+abbrev pub IssuesAtMost : List Held → ℕ → List Flying → List Flying → Type 0
+IssuesAtMost tasks place old new = (new ≡ old) ⊎ IssuesOne tasks place old new

@@ -9,7 +9,7 @@ ghost use Rattle.satl_flight.specs.Flown.{is_outstanding};
 ghost use Rattle.satl_drive.specs.State.{DriveState, IsFit};
 ghost use Rattle.satl_flight.specs.Lending.{AreAlike};
 ghost use Rattle.satl_flight.specs.Queueing.{EndsAndLeaves, IsQueued, IsSlotted, empty};
-ghost use Rattle.satl_flight.specs.Settled.{IsCut, IsFilled, IsIssuedIfItMay, IsLaunched, IsLostInFlight, IsLostQuietly, on_drive};
+ghost use Rattle.satl_flight.specs.Settled.{IsCut, IsFilled, IsIssuedIfItMay, IsLaunched, IsLostInFlight, IsLostQuietly, IssuesAtMost, IssuesInOrder, on_drive};
 
 use crate::flight::Flight;
 use satl_base::{Nexus, NoMemory, Pages, Steps, Tag};
@@ -22,7 +22,7 @@ use std::marker::Model;
 use std::sync::ledger::Ledger;
 
 /// The task set, what is outstanding of it, and the slots of the tags. Clauses see each task with its pages, wherever these
-/// lie.
+/// lie (ACS-3, native command queuing; profile).
 #[derive(Drop)]
 pub struct Queue {
     set: TaskSet,
@@ -52,7 +52,8 @@ impl Queue {
         })
     }
 
-    /// Issues the eligible ranged tasks that are not outstanding, in order of arrival, while a tag is free.
+    /// Issues the eligible ranged tasks that are not outstanding, in order of arrival, while a tag is free (ACS-3, native
+    /// command queuing; profile).
     pub fn launch<D: Drive, L: Ledger>(
         &mut self,
         drive: &mut D,
@@ -61,6 +62,7 @@ impl Queue {
         requires queued { IsQueued self.old (D.state drive.old) }
         ensures ok { OnOk result (IsLaunched (on_drive self.old (D.state drive.old)) (on_drive self.new (D.state drive.new))) }
         ensures filled { OnOk result (IsFilled self.new.flying self.new.tasks) }
+        ensures in_order { OnOk result (IssuesInOrder self.old.flying self.new.flying self.new.tasks) }
         ensures err { OnErr result (IsLostQuietly self.old.tasks (D.state drive.old) (D.state drive.new)) }
         ensures emptied { OnErr result (self.new.flying ≡ []) }
         ensures same { self.new.tasks ≡ self.old.tasks }
@@ -77,7 +79,7 @@ impl Queue {
     }
 
     /// Polls once: the task that has ended leaves, into a box. Gives the entry of the error log where it failed. The task that
-    /// lay in the box is gone; at a lost link it stays.
+    /// lay in the box is gone; at a lost link it stays (ACS-3, native command queuing; profile).
     pub fn settle_one<D: Drive, L: Ledger>(
         &mut self,
         task: &mut TaskBox,
@@ -108,7 +110,7 @@ impl Queue {
         }
     }
 
-    /// Resets the drive: nothing is outstanding, and each task waits on.
+    /// Resets the drive: nothing is outstanding, and each task waits on (ACS-3, software reset).
     pub fn cut<D: Drive, L: Ledger>(
         &mut self,
         drive: &mut D,
@@ -148,7 +150,7 @@ impl Queue {
         self.set.find(nexus, tag)
     }
 
-    /// The task at a place, but for its pages, which may be lent.
+    /// The task at a place, but for its pages, which may be lent (profile).
     pub fn entry(&self, place: usize) -> &Entry
         requires { place < length self.now.tasks }
         ensures { option_map without_pages (entry_at self.now.tasks place) ≡ Some (without_pages result.now) }
@@ -156,7 +158,7 @@ impl Queue {
         self.set.entry(place)
     }
 
-    /// Whether the task at a place is outstanding.
+    /// Whether the task at a place is outstanding (profile).
     pub fn is_outstanding(&self, place: usize) -> bool
         requires { place < length self.now.tasks }
         ensures { (h : Held) → slice_get self.now.tasks place ≡ Some h → result ≡ is_outstanding self.now.flying h.slot }
@@ -164,8 +166,8 @@ impl Queue {
         self.flight.holds_slot(self.set.slot_of(place))
     }
 
-    /// Issues the last task, if it is eligible, ranged and not outstanding, and a tag is free. At a lost link all tasks have
-    /// their pages back.
+    /// Issues the last task, and no other, if it is eligible, ranged and not outstanding, and a tag is free. At a lost link all
+    /// tasks have their pages back (ACS-3, native command queuing; profile).
     pub fn launch_last<D: Drive, L: Ledger>(
         &mut self,
         drive: &mut D,
@@ -175,6 +177,7 @@ impl Queue {
         requires queued { IsQueued self.old (D.state drive.old) }
         ensures ok { OnOk result (IsLaunched (on_drive self.old (D.state drive.old)) (on_drive self.new (D.state drive.new))) }
         ensures covered { OnOk result (IsIssuedIfItMay self.new.flying self.new.tasks (length self.old.tasks - 1)) }
+        ensures only { OnOk result (IssuesAtMost self.new.tasks (length self.old.tasks - 1) self.old.flying self.new.flying) }
         ensures err { OnErr result (IsLostQuietly self.old.tasks (D.state drive.old) (D.state drive.new)) }
         ensures emptied { OnErr result (self.new.flying ≡ []) }
         ensures same { self.new.tasks ≡ self.old.tasks }
@@ -186,7 +189,7 @@ impl Queue {
             .launch_one(place, &mut self.set, &mut self.dma, drive, steps)
     }
 
-    /// Puts pages into the last task, which has none and is not outstanding.
+    /// Puts pages into the last task, which has none and is not outstanding (profile).
     pub fn fill_last(&mut self, body: Pages)
         requires some { 0 < length self.old.tasks }
         requires waits { (h : Held) → slice_get self.old.tasks (length self.old.tasks - 1) ≡ Some h
@@ -201,7 +204,7 @@ impl Queue {
         self.set.put_data(place, body);
     }
 
-    /// Whether nothing is outstanding.
+    /// Whether nothing is outstanding (profile).
     pub fn is_idle(&self) -> bool
         ensures { IsTrue result ↔ (self.now.flying ≡ []) }
     {
@@ -223,7 +226,7 @@ impl Queue {
         self.set.add(task)
     }
 
-    /// Takes the task at a place out, which is not outstanding, into a box: the task that lay there is gone.
+    /// Takes the task at a place out, which is not outstanding, into a box: the task that lay there is gone (profile).
     pub fn remove(&mut self, place: usize, task: &mut TaskBox)
         requires within { place < length self.old.tasks }
         requires waits { (h : Held) → slice_get self.old.tasks place ≡ Some h → is_outstanding self.old.flying h.slot ≡ false }
@@ -237,7 +240,7 @@ impl Queue {
         self.set.remove(place, task);
     }
 
-    /// Forgets all that is outstanding, where the drive has let go of it.
+    /// Forgets all that is outstanding, where the drive has let go of it (profile).
     pub fn forget(&mut self)
         ensures emptied { self.new.flying ≡ [] }
         ensures same { self.new.tasks ≡ self.old.tasks }

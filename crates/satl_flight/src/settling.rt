@@ -16,7 +16,8 @@ use satl_pages::Dma;
 use satl_regs::{AtaCommand, put_command};
 use std::sync::ledger::Ledger;
 
-/// A task that has ended on the drive: where it stands in the set, and why it failed, where it did.
+/// A task that has ended on the drive: where it stands in the set, and why it failed, where it did (ACS-3, native command
+/// queuing).
 #[derive(Clone, Copy, Debug, PartialEq, Eq)]
 pub struct Ended {
     /// The place of the task in the order of arrival.
