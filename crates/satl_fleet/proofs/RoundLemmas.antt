@@ -135,6 +135,7 @@ module _ (units : ℕ) (frame event : Frame) where
 
 -- ---- who answers
 
+-- units that answer nothing
 pub silent_at : (ss : List UnitState) (j : ℕ) → slice_index_or (silence ss) j [] ≡ []
 silent_at [] j = refl
 silent_at (s ∷ ss) zero = refl
@@ -145,9 +146,11 @@ module _ (units : ℕ) (frame : Frame) where
   both : {X : Type 0} (k : ℕ) (event : Frame) → seen units k frame ≡ event ∷ [] → seen units (k + 0) frame ≡ [] → X
   both k event sees unseen = let none : seen units k frame ≡ [] = subst (λ n. seen units n frame ≡ []) (omega arith) unseen in absurd cc
 
+  -- the same unit, counted from the next one on
   further : (k j : ℕ) → seen units (k + suc j) frame ≡ [] → seen units (suc k + j) frame ≡ []
   further k j unseen = subst (λ n. seen units n frame ≡ []) (omega arith) unseen
 
+  -- one group for each unit, and an empty one for a unit that does not see the frame
   each_length : {k : ℕ} {groups : List (List Answer)} {olds news : List UnitState} → EachDid units frame k groups olds news → length groups ≡ length olds
   each_length no_unit = refl
   each_length (unit_passes unseen others) = ap suc (each_length others)
@@ -160,6 +163,7 @@ module _ (units : ℕ) (frame : Frame) where
   each_silent k zero (unit_serves event sees did others) none = both k event sees none
   each_silent k (suc j) (unit_serves event sees did others) none = each_silent (suc k) j others (further k j none)
 
+  -- the same, up to a unit that did it in part
   stops_length : {k : ℕ} {groups : List (List Answer)} {olds news : List UnitState} → Stops units frame k groups olds news → length groups ≡ length olds
   stops_length (stop_here {ss = ss} event sees did) = ap suc (length-map ss (λ _. []))
   stops_length (stop_passes unseen others) = ap suc (stops_length others)
