@@ -48,13 +48,13 @@ module _ (limit units : ℕ) (before after : FleetMoment) (mids : List DriveStat
   served rounds run = are_served (length before.drives) 0 rounds ls' after.drives o each long run tied
 
   whole : RanWhole limit (length before.drives) a b → IsFleetWhole limit before after
-  whole r = record { rounds = r.rounds; told = r.told; served = served r.rounds r.run; calls = omega (arith, few, r.calls) }
+  whole r = record { rounds = r.rounds; are_rounds = r.are_rounds; told = r.told; served = served r.rounds r.run; calls = omega (arith, few, r.calls) }
 
   pub fleet_whole : RanWhole limit units a b → IsFleetWhole limit before after
   fleet_whole r = whole (subst (λ n. RanWhole limit n a b) is r)
 
   early : (why : FrameFault) → RanBefore limit (length before.drives) why a b → IsFleetBefore limit why before after
-  early why r = record { rounds = r.rounds; told = r.told; served = served r.rounds r.run; calls = omega (arith, few, r.calls) }
+  early why r = record { rounds = r.rounds; are_rounds = r.are_rounds; told = r.told; served = served r.rounds r.run; calls = omega (arith, few, r.calls) }
 
   in_magic : StoppedInMagic (length before.drives) a b → BrokeInMagic before after
   in_magic r = record { breaks = r.breaks; served = served [] r.run; calls = omega (arith, few, r.calls) }
@@ -63,6 +63,7 @@ module _ (limit units : ℕ) (before after : FleetMoment) (mids : List DriveStat
   in_round r = record {
     rounds = r.rounds;
     round = r.round;
+    are_rounds = r.are_rounds;
     breaks = r.breaks;
     served = by_run r.run;
     calls = omega (arith, few, r.calls);
@@ -74,7 +75,7 @@ module _ (limit units : ℕ) (before after : FleetMoment) (mids : List DriveStat
       by_run (inr run) = inr (are_served_part (length before.drives) 0 r.rounds r.round ls' after.drives o each long run tied)
 
   in_fault : StoppedInFault limit (length before.drives) a b → BrokeInFault limit before after
-  in_fault r = record { rounds = r.rounds; breaks = r.breaks; served = served r.rounds r.run; calls = omega (arith, few, r.calls) }
+  in_fault r = record { rounds = r.rounds; are_rounds = r.are_rounds; breaks = r.breaks; served = served r.rounds r.run; calls = omega (arith, few, r.calls) }
 
   in_part : RanInPart limit (length before.drives) a b → IsFleetInPart limit before after
   in_part (inl r) = inl (in_magic r)

@@ -12,12 +12,12 @@ use Rattle.satl_frame.specs.Output.Answer.{replied}
 use Rattle.satl_frame.specs.declared.frames.Frame.{Frame}
 use Rattle.satl_frame.specs.declared.frames.Frame.TheVariants as frames
 use Rattle.satl_fleet.specs.Output.{end_told, named, round_told, target_told, told_from, told_under}
-use Rattle.satl_fleet.specs.Rounds.{AllDid, AllDidInPart, DidAt, DidAtInPart, EachDid, IsTurnOrBench, RoundDone, RoundInPart, Stage, Stops, round_of, stage}
+use Rattle.satl_fleet.specs.Rounds.{AllDid, AllDidInPart, DidAt, DidAtInPart, EachDid, IsTurnOrBench, RoundDone, RoundInPart, Stage, Stops, round_of, silence, stage}
 use Rattle.satl_fleet.specs.Routing.{is_for_all, is_report, lun_0, route_to, seen}
 use Rattle.satl_fleet.specs.declared.routing.Route.{Route}
 use Rattle.satl_fleet.specs.Target.{target_reply}
 use Rattle.satl_fleet.specs.Serving.{Target}
-use Rattle.satl_fleet.proofs.RoundLemmas.{all_pass, alone, one_serves, one_stops, serves_all, silence, stops_all, told_alone, told_silence, told_up_to, up_to}
+use Rattle.satl_fleet.proofs.RoundLemmas.{all_pass, alone, one_serves, one_stops, serves_all, stops_all, told_alone, told_silence}
 
 -- ---- what it is to the units
 
@@ -90,9 +90,9 @@ module _ (units : ℕ) (frame : Frame) (quiet : target_told units frame ≡ []) 
 
       pub one_round_part : DidAtInPart at event a b → RoundInPart units frame a b
       one_round_part d = record {
-        groups = up_to at d.answers;
-        each = inr (subst (λ ss. Stops units frame 0 (up_to at d.answers) a.target.units ss) (sym d.set) (one_stops units frame event at here others d.answers d.old d.new 0 at a.target.units (omega arith) d.here d.did));
-        part = subst (WrotePart a.written b.written) (ap (λ n. told_under n d.answers) (omega arith) ∙ (sym (told_up_to 0 at d.answers) ∙ plain_told (up_to at d.answers))) d.part;
+        groups = alone at d.answers a.target.units;
+        each = inr (subst (λ ss. Stops units frame 0 (alone at d.answers a.target.units) a.target.units ss) (sym d.set) (one_stops units frame event at here others d.answers d.old d.new 0 at a.target.units (omega arith) d.here d.did));
+        part = subst (WrotePart a.written b.written) (ap (λ n. told_under n d.answers) (omega arith) ∙ (sym (told_alone 0 at d.answers a.target.units d.old d.here) ∙ plain_told (alone at d.answers a.target.units))) d.part;
       }
 
 -- the target's own answer

@@ -22,11 +22,12 @@ use Rattle.satl_core.specs.Turning.{turn_calls}
 use Rattle.satl_step.specs.Loop.{is_end}
 use Rattle.satl_step.proofs.LoopLemmas.{expectable, holds, not_end, the_end}
 use Rattle.satl_fleet.specs.Loop.{Going, HasGiven, LoopState, ReachedEnd, SoFar, StoppedInRound}
-use Rattle.satl_fleet.specs.Output.{Round, frames_of, round_told, rounds_told}
+use Rattle.satl_fleet.specs.Output.{IsRoundOf, Round, frames_of, round_told, rounds_told}
 use Rattle.satl_fleet.specs.Rounds.{CanRoute, EachDid, RoundDone, RoundInPart, Stops, calls_for, frame_calls, round_of}
 use Rattle.satl_fleet.specs.Runs.{HasNoTask, HaveRun, HaveRunInPart}
 use Rattle.satl_fleet.specs.Serving.{calls_due}
 use Rattle.satl_fleet.specs.Units.{UnitState, pending}
+use Rattle.satl_fleet.proofs.RoundLemmas.{each_is_round, stops_is_round}
 use Rattle.satl_fleet.proofs.RunLemmas.{run_none, run_round, run_round_part}
 use Rattle.satl_fleet.proofs.SpotLemmas.{pending_cons}
 
@@ -85,6 +86,7 @@ module _ (units : ℕ) where
   going_start a unread idle = record {
     rounds = [];
     so_far = record {
+      are_rounds = tt;
       given = record { limit = refl; newest = refl; read = rw unread (refl, refl); calls = let none = ap (λ n. turn_calls * n) (none_pending a.stage.target.units idle) in omega (arith, none) };
       wrote = Wrote-none a.stage.written;
       run = run_none units 0 a.stage.target.units idle;
@@ -92,7 +94,7 @@ module _ (units : ℕ) where
     none_ends = tt;
   }
 
-  module _ (a b c : LoopState) (room : ℕ) (frame : Frame) (going : Going units a b) (gave : Gave b.reader room frame c.reader b.left c.left) (whole : gave.whole ≡ frame) (calls : calls_due c.stage.target c.calls ≤ calls_due b.stage.target b.calls + frame_calls units frame) where
+  module _ (a b c : LoopState) (room : ℕ) (frame : Frame) (going : Going units a b) (gave : Gave b.reader room frame c.reader b.left c.left) (whole : gave.whole ≡ frame) (calls : calls_due c.stage.target c.calls ≤ calls_due b.stage.target b.calls + frame_calls units frame) (long : length b.stage.target.units ≡ units) where
     given_more : HasGiven units a c (frames_of going.rounds ++ frame ∷ [])
     given_more = record {
       limit = ap (λ (r : Reading). r.limit) gave.new_is ∙ going.so_far.given.limit;
@@ -107,6 +109,7 @@ module _ (units : ℕ) where
 
       so_far_more : SoFar units a c (going.rounds ++ round ∷ [])
       so_far_more = record {
+        are_rounds = All-append (IsRoundOf units) going.rounds (round ∷ []) going.so_far.are_rounds (each_is_round units frame long done.each, tt);
         given = subst (HasGiven units a c) (sym (frames_push going.rounds round)) given_more;
         wrote = subst (Wrote a.stage.written c.stage.written) (sym (told_push units going.rounds round)) (Wrote-more going.so_far.wrote done.wrote);
         run = run_round units going.rounds frame done.groups 0 [] a.stage.target.units refl refl going.so_far.run done.each;
@@ -132,11 +135,16 @@ module _ (units : ℕ) where
       mid = b;
       going = going;
       round = round_of frame done.groups;
+      is_round = is_round done.each;
       given = given_more;
       part = done.part;
       run = by_each done.each;
     }
       where
+        is_round : EachDid units frame 0 done.groups b.stage.target.units c.stage.target.units ⊎ Stops units frame 0 done.groups b.stage.target.units c.stage.target.units → IsRoundOf units (round_of frame done.groups)
+        is_round (inl each) = each_is_round units frame long each
+        is_round (inr stops) = stops_is_round units frame long stops
+
         by_each : EachDid units frame 0 done.groups b.stage.target.units c.stage.target.units ⊎ Stops units frame 0 done.groups b.stage.target.units c.stage.target.units
             → HaveRun units 0 (going.rounds ++ round_of frame done.groups ∷ []) a.stage.target.units c.stage.target.units ⊎ HaveRunInPart units going.rounds (round_of frame done.groups) 0 a.stage.target.units c.stage.target.units
         by_each (inl each) = inl (run_round units going.rounds frame done.groups 0 [] a.stage.target.units refl refl going.so_far.run each)

@@ -1,13 +1,13 @@
 -- One frame over the units.
-use Rattle.std.proofs.Common.{◌≡◌, append_assoc, refl, sym, ap, subst, ◌∙◌, arith, ℕ, zero, suc, ◌+◌, ◌≤◌, List, [], ◌∷◌, ◌++◌, length, map}
-use Rattle.std.proofs.lemmas.List.{append-nil}
-use Rattle.std.specs.Prelude.{Some, slice_get, slice_set}
+use Rattle.std.proofs.Common.{◌≡◌, append_assoc, refl, sym, ap, subst, ◌∙◌, arith, ℕ, zero, suc, ◌+◌, ◌≤◌, List, [], ◌∷◌, ◌++◌, drop, length}
+use Rattle.std.proofs.lemmas.List.{append-nil, length-map}
+use Rattle.std.specs.Prelude.{Some, slice_get, slice_index_or, slice_set}
 use Rattle.satl_io.specs.Known.{Wrote, WrotePart}
 use Rattle.satl_io.proofs.Joined.{Wrote-more, Wrote-none, WrotePart-more}
 use Rattle.satl_frame.specs.Output.{Answer}
 use Rattle.satl_frame.specs.declared.frames.Frame.{Frame}
-use Rattle.satl_fleet.specs.Output.{told_from, told_under}
-use Rattle.satl_fleet.specs.Rounds.{AllDid, AllDidInPart, DidAt, DidAtInPart, DidTo, DidToInPart, EachDid, Stage, Stops}
+use Rattle.satl_fleet.specs.Output.{IsRoundOf, told_from, told_under}
+use Rattle.satl_fleet.specs.Rounds.{AllDid, AllDidInPart, DidAt, DidAtInPart, DidTo, DidToInPart, EachDid, Stage, Stops, round_of, silence}
 use Rattle.satl_fleet.specs.Rounds.DidTo.{rest, more}
 use Rattle.satl_fleet.specs.Rounds.DidToInPart.{here as part_here, later as part_later}
 use Rattle.satl_fleet.specs.Rounds.EachDid.{none as no_unit, passes as unit_passes, serves as unit_serves}
@@ -17,21 +17,18 @@ use Rattle.satl_fleet.specs.Units.{Did, DidInPart, UnitState}
 
 -- ---- telling
 
-told_from-push : (k : ℕ) (groups : List (List Answer)) (answers : List Answer) → told_from k (groups ++ answers ∷ []) ≡ told_from k groups ++ told_under (k + length groups) answers
-told_from-push k [] answers = append-nil (told_under k answers) ∙ ap (λ n. told_under n answers) (omega arith)
-told_from-push k (g ∷ groups) answers =
-    ap (λ l. told_under k g ++ l) (told_from-push (suc k) groups answers)
-    ∙ (sym (append_assoc (told_under k g) (told_from (suc k) groups) (told_under (suc k + length groups) answers))
-    ∙ ap (λ n. (told_under k g ++ told_from (suc k) groups) ++ told_under n answers) (omega arith))
-
 -- nobody answers
-pub silence : List UnitState → List (List Answer)
-silence ss = map (λ _. []) ss
-
 pub told_silence : (k : ℕ) (ss : List UnitState) → told_from k (silence ss) ≡ []
-unfolding silence
 told_silence k [] = refl
 told_silence k (s ∷ ss) = told_silence (suc k) ss
+
+-- one unit more answers, and those behind it do not
+told_from-push : (k : ℕ) (groups : List (List Answer)) (answers : List Answer) (ss : List UnitState) → told_from k (groups ++ answers ∷ silence ss) ≡ told_from k groups ++ told_under (k + length groups) answers
+told_from-push k [] answers ss = ap (λ l. told_under k answers ++ l) (told_silence (suc k) ss) ∙ (append-nil (told_under k answers) ∙ ap (λ n. told_under n answers) (omega arith))
+told_from-push k (g ∷ groups) answers ss =
+    ap (λ l. told_under k g ++ l) (told_from-push (suc k) groups answers ss)
+    ∙ (sym (append_assoc (told_under k g) (told_from (suc k) groups) (told_under (suc k + length groups) answers))
+    ∙ ap (λ n. (told_under k g ++ told_from (suc k) groups) ++ told_under n answers) (omega arith))
 
 -- the unit of this number alone answers
 pub alone : ℕ → List Answer → List UnitState → List (List Answer)
@@ -44,16 +41,6 @@ unfolding alone
 told_alone k j answers [] old is = absurd cc
 told_alone k zero answers (s ∷ ss) old is = ap (λ l. told_under k answers ++ l) (told_silence (suc k) ss) ∙ (append-nil (told_under k answers) ∙ ap (λ n. told_under n answers) (omega arith))
 told_alone k (suc j) answers (s ∷ ss) old is = told_alone (suc k) j answers ss old is ∙ ap (λ n. told_under n answers) (omega arith)
-
--- the same, up to it
-pub up_to : ℕ → List Answer → List (List Answer)
-up_to zero answers = answers ∷ []
-up_to (suc k) answers = [] ∷ up_to k answers
-
-pub told_up_to : (k j : ℕ) (answers : List Answer) → told_from k (up_to j answers) ≡ told_under (k + j) answers
-unfolding up_to
-told_up_to k zero answers = append-nil (told_under k answers) ∙ ap (λ n. told_under n answers) (omega arith)
-told_up_to k (suc j) answers = told_up_to (suc k) j answers ∙ ap (λ n. told_under n answers) (omega arith)
 
 -- ---- so many units
 
@@ -69,11 +56,11 @@ did_push : {event : Frame} {n : ℕ} {groups : List (List Answer)} {answers : Li
 did_push {olds = ss} rest is did = first_did ss is did
 did_push (more d to) is did = more d (did_push to is did)
 
-first_part : {event : Frame} {answers : List Answer} {old new : UnitState} (ss : List UnitState) → slice_get ss 0 ≡ Some old → DidInPart event old answers new → DidToInPart event (answers ∷ []) ss (slice_set ss 0 new)
+first_part : {event : Frame} {answers : List Answer} {old new : UnitState} (ss : List UnitState) → slice_get ss 0 ≡ Some old → DidInPart event old answers new → DidToInPart event (answers ∷ silence (drop 1 ss)) ss (slice_set ss 0 new)
 first_part [] is did = absurd cc
-first_part {event} {answers} {old} {new} (s ∷ ss) is did = let same : old ≡ s = cc in subst (λ x. DidToInPart event (answers ∷ []) (x ∷ ss) (new ∷ ss)) same (part_here did)
+first_part {event} {answers} {old} {new} (s ∷ ss) is did = let same : old ≡ s = cc in subst (λ x. DidToInPart event (answers ∷ silence ss) (x ∷ ss) (new ∷ ss)) same (part_here did)
 
-part_push : {event : Frame} {n : ℕ} {groups : List (List Answer)} {answers : List Answer} {olds news : List UnitState} {old new : UnitState} → DidTo event n groups olds news → slice_get news n ≡ Some old → DidInPart event old answers new → DidToInPart event (groups ++ answers ∷ []) olds (slice_set news n new)
+part_push : {event : Frame} {n : ℕ} {groups : List (List Answer)} {answers : List Answer} {olds news : List UnitState} {old new : UnitState} → DidTo event n groups olds news → slice_get news n ≡ Some old → DidInPart event old answers new → DidToInPart event (groups ++ answers ∷ silence (drop (suc n) olds)) olds (slice_set news n new)
 part_push {olds = ss} rest is did = first_part ss is did
 part_push (more d to) is did = part_later d (part_push to is did)
 
@@ -86,14 +73,14 @@ pub record DoneTo (event : Frame) (n : ℕ) (before after : Stage) : Type 0 wher
 pub done_none : (event : Frame) (a : Stage) → DoneTo event 0 a a
 done_none event a = record { groups = []; did = rest; wrote = Wrote-none a.written }
 
-place : {event : Frame} {n : ℕ} {groups : List (List Answer)} {olds news : List UnitState} (answers : List Answer) → DidTo event n groups olds news → told_from 0 groups ++ told_under n answers ≡ told_from 0 (groups ++ answers ∷ [])
-place {event} {n} {groups} answers to = sym (told_from-push 0 groups answers ∙ ap (λ m. told_from 0 groups ++ told_under m answers) (let long = did_length to in omega (arith, long)))
+place : {event : Frame} {n : ℕ} {groups : List (List Answer)} {olds news : List UnitState} (answers : List Answer) (ss : List UnitState) → DidTo event n groups olds news → told_from 0 groups ++ told_under n answers ≡ told_from 0 (groups ++ answers ∷ silence ss)
+place {event} {n} {groups} answers ss to = sym (told_from-push 0 groups answers ss ∙ ap (λ m. told_from 0 groups ++ told_under m answers) (let long = did_length to in omega (arith, long)))
 
 pub done_more : (event : Frame) (n : ℕ) (a b c : Stage) → DoneTo event n a b → DidAt n event b c → DoneTo event (suc n) a c
 done_more event n a b c done at = record {
   groups = done.groups ++ at.answers ∷ [];
   did = subst (DidTo event (suc n) (done.groups ++ at.answers ∷ []) a.target.units) (sym at.set) (did_push done.did at.here at.did);
-  wrote = subst (Wrote a.written c.written) (place at.answers done.did) (Wrote-more done.wrote at.wrote);
+  wrote = subst (Wrote a.written c.written) (place at.answers [] done.did) (Wrote-more done.wrote at.wrote);
 }
 
 pub done_next : (event : Frame) (n : ℕ) (a b c : Stage) → DoneTo event n a b → DidAt n event b c → DoneTo event (n + 1) a c
@@ -104,9 +91,9 @@ done_all event n a b all done = record { groups = done.groups; did = subst (λ m
 
 pub done_part : (event : Frame) (n : ℕ) (a b c : Stage) → DoneTo event n a b → DidAtInPart n event b c → AllDidInPart event a c
 done_part event n a b c done at = record {
-  groups = done.groups ++ at.answers ∷ [];
-  did = subst (DidToInPart event (done.groups ++ at.answers ∷ []) a.target.units) (sym at.set) (part_push done.did at.here at.did);
-  part = subst (WrotePart a.written c.written) (place at.answers done.did) (WrotePart-more done.wrote at.part);
+  groups = done.groups ++ at.answers ∷ silence (drop (suc n) a.target.units);
+  did = subst (DidToInPart event (done.groups ++ at.answers ∷ silence (drop (suc n) a.target.units)) a.target.units) (sym at.set) (part_push done.did at.here at.did);
+  part = subst (WrotePart a.written c.written) (place at.answers (drop (suc n) a.target.units) done.did) (WrotePart-more done.wrote at.part);
 }
 
 -- ---- a frame
@@ -122,7 +109,6 @@ module _ (units : ℕ) (frame event : Frame) where
   stops_all each k (part_later did to) = stop_serves event (each k) did (stops_all each (suc k) to)
 
   pub all_pass : (k : ℕ) (ss : List UnitState) → ((i : ℕ) → k ≤ i → seen units i frame ≡ []) → EachDid units frame k (silence ss) ss ss
-  unfolding silence
   all_pass k [] none = no_unit
   all_pass k (s ∷ ss) none = unit_passes (none k (omega arith)) (all_pass (suc k) ss (λ i le. none i (omega (arith, le))))
 
@@ -137,12 +123,62 @@ module _ (units : ℕ) (frame event : Frame) where
         (unit_serves event (subst (λ n. seen units n frame ≡ event ∷ []) now here) did (all_pass (suc k) ss (λ i le. others i (λ e. omega (arith, le, e, is)))))
     one_serves k (suc j) (s ∷ ss) is there did = unit_passes (others k (λ e. omega (arith, e, is))) (one_serves (suc k) j ss (omega (arith, is)) there did)
 
-    pub one_stops : (k j : ℕ) (ss : List UnitState) → at ≡ k + j → slice_get ss j ≡ Some old → DidInPart event old answers new → Stops units frame k (up_to j answers) ss (slice_set ss j new)
-    unfolding up_to
+    pub one_stops : (k j : ℕ) (ss : List UnitState) → at ≡ k + j → slice_get ss j ≡ Some old → DidInPart event old answers new → Stops units frame k (alone j answers ss) ss (slice_set ss j new)
+    unfolding alone
     one_stops k j [] is there did = absurd cc
     one_stops k zero (s ∷ ss) is there did =
         let same : old ≡ s = cc in
         let now : at ≡ k = omega (arith, is) in
-        subst (λ x. Stops units frame k (answers ∷ []) (x ∷ ss) (new ∷ ss)) same
+        subst (λ x. Stops units frame k (answers ∷ silence ss) (x ∷ ss) (new ∷ ss)) same
         (stop_here event (subst (λ n. seen units n frame ≡ event ∷ []) now here) did)
     one_stops k (suc j) (s ∷ ss) is there did = stop_passes (others k (λ e. omega (arith, e, is))) (one_stops (suc k) j ss (omega (arith, is)) there did)
+
+-- ---- who answers
+
+-- units that answer nothing
+pub silent_at : (ss : List UnitState) (j : ℕ) → slice_index_or (silence ss) j [] ≡ []
+silent_at [] j = refl
+silent_at (s ∷ ss) zero = refl
+silent_at (s ∷ ss) (suc j) = silent_at ss j
+
+module _ (units : ℕ) (frame : Frame) where
+  -- a frame is not both seen and unseen
+  both : {X : Type 0} (k : ℕ) (event : Frame) → seen units k frame ≡ event ∷ [] → seen units (k + 0) frame ≡ [] → X
+  both k event sees unseen = let none : seen units k frame ≡ [] = subst (λ n. seen units n frame ≡ []) (omega arith) unseen in absurd cc
+
+  -- the same unit, counted from the next one on
+  further : (k j : ℕ) → seen units (k + suc j) frame ≡ [] → seen units (suc k + j) frame ≡ []
+  further k j unseen = subst (λ n. seen units n frame ≡ []) (omega arith) unseen
+
+  -- one group for each unit, and an empty one for a unit that does not see the frame
+  each_length : {k : ℕ} {groups : List (List Answer)} {olds news : List UnitState} → EachDid units frame k groups olds news → length groups ≡ length olds
+  each_length no_unit = refl
+  each_length (unit_passes unseen others) = ap suc (each_length others)
+  each_length (unit_serves event sees did others) = ap suc (each_length others)
+
+  each_silent : (k j : ℕ) {groups : List (List Answer)} {olds news : List UnitState} → EachDid units frame k groups olds news → seen units (k + j) frame ≡ [] → slice_index_or groups j [] ≡ []
+  each_silent k j no_unit none = refl
+  each_silent k zero (unit_passes unseen others) none = refl
+  each_silent k (suc j) (unit_passes unseen others) none = each_silent (suc k) j others (further k j none)
+  each_silent k zero (unit_serves event sees did others) none = both k event sees none
+  each_silent k (suc j) (unit_serves event sees did others) none = each_silent (suc k) j others (further k j none)
+
+  -- the same, up to a unit that did it in part
+  stops_length : {k : ℕ} {groups : List (List Answer)} {olds news : List UnitState} → Stops units frame k groups olds news → length groups ≡ length olds
+  stops_length (stop_here {ss = ss} event sees did) = ap suc (length-map ss (λ _. []))
+  stops_length (stop_passes unseen others) = ap suc (stops_length others)
+  stops_length (stop_serves event sees did others) = ap suc (stops_length others)
+
+  stops_silent : (k j : ℕ) {groups : List (List Answer)} {olds news : List UnitState} → Stops units frame k groups olds news → seen units (k + j) frame ≡ [] → slice_index_or groups j [] ≡ []
+  stops_silent k zero (stop_here event sees did) none = both k event sees none
+  stops_silent k (suc j) (stop_here {ss = ss} event sees did) none = silent_at ss j
+  stops_silent k zero (stop_passes unseen others) none = refl
+  stops_silent k (suc j) (stop_passes unseen others) none = stops_silent (suc k) j others (further k j none)
+  stops_silent k zero (stop_serves event sees did others) none = both k event sees none
+  stops_silent k (suc j) (stop_serves event sees did others) none = stops_silent (suc k) j others (further k j none)
+
+  pub each_is_round : {groups : List (List Answer)} {olds news : List UnitState} → length olds ≡ units → EachDid units frame 0 groups olds news → IsRoundOf units (round_of frame groups)
+  each_is_round long each = record { one_each = each_length each ∙ long; unseen_silent = λ k none. each_silent 0 k each (subst (λ n. seen units n frame ≡ []) (omega arith) none) }
+
+  pub stops_is_round : {groups : List (List Answer)} {olds news : List UnitState} → length olds ≡ units → Stops units frame 0 groups olds news → IsRoundOf units (round_of frame groups)
+  stops_is_round long stops = record { one_each = stops_length stops ∙ long; unseen_silent = λ k none. stops_silent 0 k stops (subst (λ n. seen units n frame ≡ []) (omega arith) none) }

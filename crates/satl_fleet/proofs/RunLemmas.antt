@@ -1,5 +1,5 @@
 -- The runs of units, which grow by a round.
-use Rattle.std.proofs.Common.{◌≡◌, append_assoc, refl, sym, ap, subst, arith, ◌∙◌, ℕ, suc, ◌+◌, max, List, [], ◌∷◌, ◌++◌, length}
+use Rattle.std.proofs.Common.{◌≡◌, append_assoc, refl, sym, ap, subst, arith, ◌∙◌, ℕ, zero, suc, ◌+◌, ◌<◌, max, List, [], ◌∷◌, ◌++◌, length}
 use Rattle.std.proofs.lemmas.List.{append-nil, length-append}
 use Rattle.std.specs.Prelude.{slice_index_or}
 use Rattle.std.specs.List.{AllByRecursion}
@@ -15,14 +15,15 @@ use Rattle.satl_step.specs.Events.{unplugs_behind}
 use Rattle.satl_step.specs.Runs.{KeepsDeepest, tally_of, unplugs_in}
 use Rattle.satl_direct.specs.Run.RunInPart.{one_more}
 use Rattle.satl_step.proofs.RunLemmas.{Unplugs, unplugs_one, unplugs_pushed}
-use Rattle.satl_fleet.specs.Output.{Round, frames_of, group_of, groups_for}
-use Rattle.satl_fleet.specs.Rounds.{EachDid, Stops, round_of}
+use Rattle.satl_fleet.specs.Output.{NoAnswersBehind, Round, frames_of, group_of, groups_for}
+use Rattle.satl_fleet.specs.Rounds.{EachDid, Stops, round_of, silence}
 use Rattle.satl_fleet.specs.Rounds.EachDid.{none as no_unit, passes as unit_passes, serves as unit_serves}
 use Rattle.satl_fleet.specs.Rounds.Stops.{here as stop_here, passes as stop_passes, serves as stop_serves}
 use Rattle.satl_fleet.specs.Routing.{project, seen}
 use Rattle.satl_fleet.specs.Runs.{HasNoTask, HaveRun, HaveRunInPart, RanRounds, RanRoundsInPart, UnitCounted, UnitRan, UnitRanInPart, UnitStand, unit_stand_of}
 use Rattle.satl_fleet.specs.Runs.HaveRunInPart.{here as run_here, later as run_later}
 use Rattle.satl_fleet.specs.Units.{Did, DidInPart, UnitState, device_of}
+use Rattle.satl_fleet.proofs.RoundLemmas.{silent_at}
 
 -- ---- one unit
 
@@ -106,6 +107,12 @@ group_at : (before : List (List Answer)) (answers : List Answer) (behind : List 
 group_at [] answers behind k is = ap (λ n. slice_index_or (answers ∷ behind) n []) (sym is)
 group_at (g ∷ gs) answers behind k is = ap (λ n. slice_index_or (g ∷ (gs ++ answers ∷ behind)) n []) (sym is) ∙ group_at gs answers behind (length gs) refl
 
+-- the groups behind it, where those units are silent
+silent_behind : (before : List (List Answer)) (answers : List Answer) (ss : List UnitState) (j : ℕ) → length before < j → slice_index_or (before ++ answers ∷ silence ss) j [] ≡ []
+silent_behind before answers ss zero less = absurd (omega (arith, less))
+silent_behind [] answers ss (suc j) less = silent_at ss j
+silent_behind (g ∷ gs) answers ss (suc j) less = silent_behind gs answers ss j (omega (arith, less))
+
 module _ (units : ℕ) (rounds : List Round) (frame : Frame) (groups : List (List Answer)) where
   abbrev whole : Round
   whole = round_of frame groups
@@ -118,6 +125,9 @@ module _ (units : ℕ) (rounds : List Round) (frame : Frame) (groups : List (Lis
 
   here_is : (before : List (List Answer)) (answers : List Answer) (behind : List (List Answer)) (k : ℕ) → groups ≡ before ++ answers ∷ behind → length before ≡ k → slice_index_or groups k [] ≡ answers
   here_is before answers behind k is long = ap (λ gs. slice_index_or gs k []) is ∙ group_at before answers behind k long
+
+  none_behind : (before : List (List Answer)) (answers : List Answer) (ss : List UnitState) (k : ℕ) → groups ≡ before ++ answers ∷ silence ss → length before ≡ k → NoAnswersBehind k whole
+  none_behind before answers ss k is long j less = ap (λ gs. slice_index_or gs j []) is ∙ silent_behind before answers ss j (omega (arith, less, long))
 
   pub run_round : (k : ℕ) (before : List (List Answer)) {behind : List (List Answer)} (starts : List UnitState) {olds news : List UnitState} → groups ≡ before ++ behind → length before ≡ k → HaveRun units k rounds starts olds → EachDid units frame k behind olds news → HaveRun units k (rounds ++ whole ∷ []) starts news
   run_round k before [] is long run no_unit = tt
@@ -132,7 +142,7 @@ module _ (units : ℕ) (rounds : List Round) (frame : Frame) (groups : List (Lis
   pub run_round_part : (k : ℕ) (before : List (List Answer)) {behind : List (List Answer)} (starts : List UnitState) {olds news : List UnitState} → groups ≡ before ++ behind → length before ≡ k → HaveRun units k rounds starts olds → Stops units frame k behind olds news → HaveRunInPart units rounds whole k starts news
   run_round_part k before [] is long run (stop_here event sees did) = absurd run
   run_round_part k before {behind = g ∷ gs} (a ∷ starts) {olds = s ∷ ss} {news = w ∷ ws} is long run (stop_here event sees did) =
-      run_here (ran_cut units k rounds whole (unit_stand_of a) s run.0 event g w sees (here_is before g gs k is long) did) run.1
+      run_here event sees (none_behind before g ss k is long) (ran_cut units k rounds whole (unit_stand_of a) s run.0 event g w sees (here_is before g gs k is long) did) run.1
   run_round_part k before [] is long run (stop_passes unseen others) = absurd run
   run_round_part k before {behind = g ∷ gs} (a ∷ starts) {olds = s ∷ ss} is long run (stop_passes unseen others) =
       run_later (ran_past units k rounds whole (unit_stand_of a) s run.0 unseen) (run_round_part (suc k) (before ++ g ∷ []) starts (next_split before g gs is) (next_length before g k long) run.1 others)

@@ -1,5 +1,5 @@
 -- What a run of the units is, once it stops, from the magic on.
-use Rattle.std.proofs.Common.{◌≡◌, inl, inr, refl, sym, ap, subst, arith, ◌∙◌, ℕ, List, []}
+use Rattle.std.proofs.Common.{◌≡◌, inl, inr, refl, sym, ap, subst, arith, ◌∙◌, ℕ, List, [], ◌∷◌}
 use Rattle.std.specs.Prelude.{Option}
 use Rattle.std.specs.List.{AllByRecursion}
 use Rattle.satl_base.specs.Limits.{input_limit}
@@ -11,6 +11,7 @@ use Rattle.satl_frame.specs.declared.frames.Reason.{Reason}
 use Rattle.satl_frame.specs.declared.frames.Version.TheVariants.{One}
 use Rattle.satl_frame.specs.Output.{fault_bytes, out_magic}
 use Rattle.satl_frame.specs.Progress.{ReadTo}
+use Rattle.satl_line.proofs.SlotsLemmas.{All-append}
 use Rattle.satl_serve.specs.Forms.{told_of}
 use Rattle.satl_serve.specs.Moments.{SinkState}
 use Rattle.satl_serve.specs.Runs.{ReadBefore}
@@ -20,7 +21,7 @@ use Rattle.satl_serve.proofs.RunLemmas.{read_to}
 use Rattle.satl_step.specs.declared.frames_loop.Stop.{Stop}
 use Rattle.satl_step.specs.declared.frames_loop.Stop.TheVariants as stops
 use Rattle.satl_fleet.specs.Loop.{LoopState, ReachedEnd, Refused, StoppedInRound, StoppedSo}
-use Rattle.satl_fleet.specs.Output.{Round, frames_of, output, rounds_told}
+use Rattle.satl_fleet.specs.Output.{IsRoundOf, Round, frames_of, output, rounds_told}
 use Rattle.satl_fleet.specs.Runs.{HasNoTask}
 use Rattle.satl_fleet.specs.Serving.{Target}
 use Rattle.satl_fleet.specs.Stopping.{RanBefore, RanTo, RanWhole, Spot, StoppedInAnswers, StoppedInFault, StoppedInMagic}
@@ -48,6 +49,7 @@ module _ (units : ℕ) (written : Option (List ℕ)) (a : LoopState) (begins : B
       let read = read_to input_limit One b.reader a.left b.left (frames_of e.rounds) e.earlier (s.given.limit ∙ begins.limit) (s.given.newest ∙ begins.newest) s.given.read e.ends in
       record {
         rounds = e.rounds;
+        are_rounds = s.are_rounds;
         told = record { earlier = e.earlier; place = read.0; ends = e.ends; read = subst (λ fs. ReadTo input_limit One read.0 a.left b.left fs) (sym e.ends) read.1; wrote = printed e.rounds b.stage.written s.wrote };
         run = s.run;
         calls = omega (arith, s.given.calls);
@@ -68,6 +70,7 @@ module _ (units : ℕ) (written : Option (List ℕ)) (a : LoopState) (begins : B
     before : (why : FrameFault) (last : Option (List ℕ)) → Refused units why a b → Wrote b.stage.written last (told_of Frames why) → RanBefore input_limit units why (place_of written a) (place_of last b)
     before why last r wrote = record {
       rounds = r.going.rounds;
+      are_rounds = r.going.so_far.are_rounds;
       told = record { read = read_before why r; wrote = Wrote-more (printed r.going.rounds b.stage.written r.going.so_far.wrote) wrote };
       run = r.going.so_far.run;
       calls = omega (arith, r.going.so_far.given.calls);
@@ -76,6 +79,7 @@ module _ (units : ℕ) (written : Option (List ℕ)) (a : LoopState) (begins : B
     broken : (reason : Reason) (offset : ℕ) (last : Option (List ℕ)) → Refused units (Bad reason offset) a b → WrotePart b.stage.written last (fault_bytes reason offset) → StoppedInFault input_limit units (place_of written a) (place_of last b)
     broken reason offset last r part = record {
       rounds = r.going.rounds;
+      are_rounds = r.going.so_far.are_rounds;
       breaks = record {
         reason = reason;
         offset = offset;
@@ -98,6 +102,7 @@ module _ (units : ℕ) (written : Option (List ℕ)) (a : LoopState) (begins : B
     in_round t = record {
       rounds = t.going.rounds;
       round = t.round;
+      are_rounds = All-append (IsRoundOf units) t.going.rounds (t.round ∷ []) t.going.so_far.are_rounds (t.is_round, tt);
       breaks = record {
         reader = b.reader;
         behind = t.mid.stage.written;

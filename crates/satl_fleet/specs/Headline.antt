@@ -1,6 +1,6 @@
 -- What holds of the input, the output and the drives of a target, by how serving ended (profile).
 use Rattle.std.specs.Prelude.{◌≡◌, ◌⊎◌, ℕ, ◌+◌, ◌≤◌, List, [], ◌∷◌, ◌++◌, length, Option}
-use Rattle.std.specs.List.{AllZip}
+use Rattle.std.specs.List.{AllByRecursion, AllZip}
 use Rattle.satl_io.specs.Known.{Wrote, WrotePart}
 use Rattle.satl_frame.specs.declared.frames.Frame.{Frame}
 use Rattle.satl_frame.specs.declared.frames.Frame.TheVariants as frames
@@ -15,7 +15,7 @@ use Rattle.satl_frame.specs.Progress.{HasRead, ReadTo}
 use Rattle.satl_frame.specs.Reading.{Reading}
 use Rattle.satl_fleet.specs.Moments.{FleetMoment, Streams, Terms, streams_at, terms}
 use Rattle.satl_fleet.specs.Opening.{IsLeftAlone}
-use Rattle.satl_fleet.specs.Output.{Round, frames_of, output, round_told}
+use Rattle.satl_fleet.specs.Output.{IsRoundOf, Round, frames_of, output, round_told}
 use Rattle.satl_fleet.specs.Rounds.{calls_for}
 use Rattle.satl_fleet.specs.Runs.{AreServed, AreServedInPart}
 use Rattle.satl_serve.specs.Forms.{told_of}
@@ -76,6 +76,7 @@ pub record BreaksInFault (on : Terms) (before after : Streams) (rounds : List Ro
 -- an input was read up to END and told whole, and each unit was served in its rounds (profile)
 pub record IsFleetWhole (limit : ℕ) (before after : FleetMoment) : Type 0 where
   pub rounds : List Round
+  pub are_rounds : AllByRecursion (IsRoundOf (length before.drives)) rounds
   pub told : IsToldWhole (terms limit (length before.drives)) (streams_at before) (streams_at after) rounds
   pub served : AreServed (length before.drives) 0 rounds before.drives after.drives
   pub calls : HasFewCalls (frames_of rounds) before after
@@ -83,6 +84,7 @@ pub record IsFleetWhole (limit : ℕ) (before after : FleetMoment) : Type 0 wher
 -- the same up to what was refused or not read (profile)
 pub record IsFleetBefore (limit : ℕ) (why : FrameFault) (before after : FleetMoment) : Type 0 where
   pub rounds : List Round
+  pub are_rounds : AllByRecursion (IsRoundOf (length before.drives)) rounds
   pub told : IsToldBefore (terms limit (length before.drives)) why (streams_at before) (streams_at after) rounds
   pub served : AreServed (length before.drives) 0 rounds before.drives after.drives
   pub calls : HasFewCalls (frames_of rounds) before after
@@ -94,10 +96,11 @@ pub record BrokeInMagic (before after : FleetMoment) : Type 0 where
   pub calls : HasFewCalls [] before after
 
 -- rounds were served, and a write failed in what is due to one more: units from the first on did it, one of them perhaps in
--- part, and those behind that one leave it out (profile)
+-- part, and those behind that one leave it out and answer nothing in it (profile)
 pub record BrokeInRound (limit : ℕ) (before after : FleetMoment) : Type 0 where
   pub rounds : List Round
   pub round : Round
+  pub are_rounds : AllByRecursion (IsRoundOf (length before.drives)) (rounds ++ round ∷ [])
   pub breaks : BreaksInRound (terms limit (length before.drives)) (streams_at before) (streams_at after) rounds round
   pub served : AreServed (length before.drives) 0 (rounds ++ round ∷ []) before.drives after.drives
       ⊎ AreServedInPart (length before.drives) rounds round 0 before.drives after.drives
@@ -106,6 +109,7 @@ pub record BrokeInRound (limit : ℕ) (before after : FleetMoment) : Type 0 wher
 -- rounds were served, and a write failed in what tells that what follows is refused (profile)
 pub record BrokeInFault (limit : ℕ) (before after : FleetMoment) : Type 0 where
   pub rounds : List Round
+  pub are_rounds : AllByRecursion (IsRoundOf (length before.drives)) rounds
   pub breaks : BreaksInFault (terms limit (length before.drives)) (streams_at before) (streams_at after) rounds
   pub served : AreServed (length before.drives) 0 rounds before.drives after.drives
   pub calls : HasFewCalls (frames_of rounds) before after

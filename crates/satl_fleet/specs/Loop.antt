@@ -1,5 +1,6 @@
 -- The frames of an input, carried out on the units of a target (profile).
 use Rattle.std.specs.Prelude.{◌≡◌, ◌⊎◌, ℕ, ◌+◌, ◌≤◌, List, [], ◌∷◌, ◌++◌, Option}
+use Rattle.std.specs.List.{AllByRecursion}
 use Rattle.satl_io.specs.Known.{Wrote, WrotePart}
 use Rattle.satl_frame.specs.declared.frames.Frame.{Frame}
 use Rattle.satl_frame.specs.declared.frames.Frame.TheVariants as frames
@@ -9,7 +10,7 @@ use Rattle.satl_frame.specs.Progress.{HasRead}
 use Rattle.satl_frame.specs.Reading.{Blames, Reading}
 use Rattle.satl_step.specs.declared.frames_loop.Stop.{Stop}
 use Rattle.satl_step.specs.declared.frames_loop.Stop.TheVariants as stops
-use Rattle.satl_fleet.specs.Output.{Round, frames_of, round_told, rounds_told}
+use Rattle.satl_fleet.specs.Output.{IsRoundOf, Round, frames_of, round_told, rounds_told}
 use Rattle.satl_fleet.specs.Rounds.{Stage, calls_for}
 use Rattle.satl_fleet.specs.Runs.{HaveRun, HaveRunInPart}
 use Rattle.satl_fleet.specs.Serving.{calls_due}
@@ -34,6 +35,7 @@ pub record HasGiven (units : ℕ) (before after : LoopState) (fs : List Frame) :
 
 -- rounds were served, and their answers told (profile)
 pub record SoFar (units : ℕ) (before after : LoopState) (rounds : List Round) : Type 0 where
+  pub are_rounds : AllByRecursion (IsRoundOf units) rounds
   pub given : HasGiven units before after (frames_of rounds)
   pub wrote : Wrote before.stage.written after.stage.written (rounds_told units rounds)
   pub run : HaveRun units 0 rounds before.stage.target.units after.stage.target.units
@@ -64,6 +66,7 @@ pub record StoppedInRound (units : ℕ) (before after : LoopState) : Type 0 wher
   pub mid : LoopState
   pub going : Going units before mid
   pub round : Round
+  pub is_round : IsRoundOf units round
   pub given : HasGiven units before after (frames_of going.rounds ++ round.frame ∷ [])
   pub part : WrotePart mid.stage.written after.stage.written (round_told units round)
   pub run : HaveRun units 0 (going.rounds ++ round ∷ []) before.stage.target.units after.stage.target.units

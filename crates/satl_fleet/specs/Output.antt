@@ -1,6 +1,6 @@
 -- How the answers of a target's units are written, in one output (profile).
-use Rattle.std.specs.Prelude.{ℕ, suc, ◌==◌, ◌&&◌, ◌||◌, not, Bool, true, false, if◌then◌else◌}
-use Rattle.std.specs.Prelude.{List, [], ◌∷◌, ◌++◌, map, slice_index_or}
+use Rattle.std.specs.Prelude.{◌≡◌, ℕ, suc, ◌<◌, ◌==◌, ◌&&◌, ◌||◌, not, Bool, true, false, if◌then◌else◌}
+use Rattle.std.specs.Prelude.{List, [], ◌∷◌, ◌++◌, length, map, slice_index_or}
 use Rattle.std.specs.List.{flat_map}
 use Rattle.satl_unit.specs.Functions.{nexus_reset_code}
 use Rattle.satl_frame.specs.declared.frames.Frame.{Frame}
@@ -50,6 +50,15 @@ told_from k (answers ∷ groups) = told_under k answers ++ told_from (suc k) gro
 pub record Round : Type 0 where
   pub frame : Frame
   pub groups : List (List Answer)
+
+-- a round of so many units: there is one group for each, and a unit that does not see the frame answers nothing (profile)
+pub record IsRoundOf (units : ℕ) (round : Round) : Type 0 where
+  pub one_each : length round.groups ≡ units
+  pub unseen_silent : (k : ℕ) → seen units k round.frame ≡ [] → slice_index_or round.groups k [] ≡ []
+
+-- no unit behind this one answers in a round (profile)
+abbrev pub NoAnswersBehind : ℕ → Round → Type 0
+NoAnswersBehind k round = (j : ℕ) → k < j → slice_index_or round.groups j [] ≡ []
 
 -- what the target itself answers, which stands under unit 0 (profile)
 abbrev pub target_told : ℕ → Frame → List ℕ

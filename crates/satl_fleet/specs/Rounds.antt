@@ -1,6 +1,6 @@
 -- One frame over the units of a target (profile).
 use Rattle.std.specs.Prelude.{◌≡◌, ◌⊎◌, ℕ, zero, suc, ◌+◌, ◌*◌, ◌≤◌, if◌then◌else◌}
-use Rattle.std.specs.Prelude.{List, [], ◌∷◌, length, Option, Some, slice_get, slice_set, sum_by}
+use Rattle.std.specs.Prelude.{List, [], ◌∷◌, length, map, Option, Some, slice_get, slice_set, sum_by}
 use Rattle.satl_io.specs.Known.{Wrote, WrotePart}
 use Rattle.satl_frame.specs.declared.frames.Frame.{Frame}
 use Rattle.satl_frame.specs.declared.frames.Frame.TheVariants as frames
@@ -44,6 +44,10 @@ pub record DidAtInPart (k : ℕ) (event : Frame) (before after : Stage) : Type 0
 
 -- ---- all units
 
+-- the groups of units that answer nothing (profile)
+abbrev pub silence : List UnitState → List (List Answer)
+silence ss = map (λ _. []) ss
+
 -- so many units from the first on did an event, with these answers, and those behind them stay (profile)
 pub data DidTo (event : Frame) : ℕ → List (List Answer) → List UnitState → List UnitState → Type 0 where
   rest : {ss : List UnitState} → DidTo event zero [] ss ss
@@ -51,10 +55,10 @@ pub data DidTo (event : Frame) : ℕ → List (List Answer) → List UnitState �
       → Did event old answers new → DidTo event count groups olds news
       → DidTo event (suc count) (answers ∷ groups) (old ∷ olds) (new ∷ news)
 
--- units from the first on did it, the next one in whole or in part, and those behind it stay (profile)
+-- units from the first on did it, the next one in whole or in part, and those behind it stay and answer nothing (profile)
 pub data DidToInPart (event : Frame) : List (List Answer) → List UnitState → List UnitState → Type 0 where
   here : {ss : List UnitState} {old new : UnitState} {answers : List Answer}
-      → DidInPart event old answers new → DidToInPart event (answers ∷ []) (old ∷ ss) (new ∷ ss)
+      → DidInPart event old answers new → DidToInPart event (answers ∷ silence ss) (old ∷ ss) (new ∷ ss)
   later : {groups : List (List Answer)} {olds news : List UnitState} {old new : UnitState} {answers : List Answer}
       → Did event old answers new → DidToInPart event groups olds news
       → DidToInPart event (answers ∷ groups) (old ∷ olds) (new ∷ news)
@@ -84,11 +88,11 @@ pub data EachDid (units : ℕ) (frame : Frame) : ℕ → List (List Answer) → 
       → seen units k frame ≡ event ∷ [] → Did event old answers new → EachDid units frame (suc k) groups olds news
       → EachDid units frame k (answers ∷ groups) (old ∷ olds) (new ∷ news)
 
--- the same up to a unit that did it in whole or in part; those behind it stay (profile)
+-- the same up to a unit that did it in whole or in part; those behind it stay and answer nothing (profile)
 pub data Stops (units : ℕ) (frame : Frame) : ℕ → List (List Answer) → List UnitState → List UnitState → Type 0 where
   here : {k : ℕ} {ss : List UnitState} {old new : UnitState} {answers : List Answer} (event : Frame)
       → seen units k frame ≡ event ∷ [] → DidInPart event old answers new
-      → Stops units frame k (answers ∷ []) (old ∷ ss) (new ∷ ss)
+      → Stops units frame k (answers ∷ silence ss) (old ∷ ss) (new ∷ ss)
   passes : {k : ℕ} {groups : List (List Answer)} {olds news : List UnitState} {old : UnitState}
       → seen units k frame ≡ [] → Stops units frame (suc k) groups olds news
       → Stops units frame k ([] ∷ groups) (old ∷ olds) (old ∷ news)

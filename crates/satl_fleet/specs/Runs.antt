@@ -8,8 +8,8 @@ use Rattle.satl_direct.specs.Device.{Device}
 use Rattle.satl_direct.specs.Run.{RunDeep, RunInPart}
 use Rattle.satl_serve.specs.Runs.{IsFirstDevice, IsLeftAs, KeepsQueue}
 use Rattle.satl_step.specs.Runs.{unplugs_in}
-use Rattle.satl_fleet.specs.Output.{Round, frames_of, groups_for}
-use Rattle.satl_fleet.specs.Routing.{project}
+use Rattle.satl_fleet.specs.Output.{NoAnswersBehind, Round, frames_of, groups_for}
+use Rattle.satl_fleet.specs.Routing.{project, seen}
 use Rattle.satl_fleet.specs.Units.{UnitState, device_of}
 use Rattle.satl_base.specs.Lists.{EachAt}
 
@@ -73,11 +73,12 @@ pub record UnitServed (Run : UnitStand → UnitStand → Type 0) (old new : Driv
 abbrev pub AreServed : ℕ → ℕ → List Round → List DriveState → List DriveState → Type 0
 AreServed units k rounds olds news = EachAt (λ n old new. UnitServed (RanRounds units n rounds) old new) k olds news
 
--- units from this one on were served in rounds and in one more, the next one in the last round in whole or in part, and those
--- behind it leave the last round out (profile)
+-- units from this one on were served in rounds and in one more, up to one that sees the last frame and was served in it in
+-- whole or in part; those behind that one leave the last round out and answer nothing in it (profile)
 pub data AreServedInPart (units : ℕ) (rounds : List Round) (round : Round)
     : ℕ → List DriveState → List DriveState → Type 0 where
-  here : {k : ℕ} {old new : DriveState} {olds news : List DriveState}
+  here : {k : ℕ} {old new : DriveState} {olds news : List DriveState} (event : Frame)
+      → seen units k round.frame ≡ event ∷ [] → NoAnswersBehind k round
       → UnitServed (RanRoundsInPart units k (rounds ++ round ∷ [])) old new
       → AreServed units (suc k) rounds olds news → AreServedInPart units rounds round k (old ∷ olds) (new ∷ news)
   later : {k : ℕ} {old new : DriveState} {olds news : List DriveState}
@@ -91,9 +92,11 @@ abbrev pub HaveRun : ℕ → ℕ → List Round → List UnitState → List Unit
 HaveRun units k rounds starts ss =
     EachAt (λ n a s. RanRounds units n rounds (unit_stand_of a) (unit_stand_of s)) k starts ss
 
--- the same, and in one round more, up to a unit that did it in whole or in part (profile)
+-- the same, and in one round more, up to a unit that sees its frame and did it in whole or in part; those behind that one
+-- answer nothing in it (profile)
 pub data HaveRunInPart (units : ℕ) (rounds : List Round) (round : Round) : ℕ → List UnitState → List UnitState → Type 0 where
-  here : {k : ℕ} {a s : UnitState} {starts ss : List UnitState}
+  here : {k : ℕ} {a s : UnitState} {starts ss : List UnitState} (event : Frame)
+      → seen units k round.frame ≡ event ∷ [] → NoAnswersBehind k round
       → RanRoundsInPart units k (rounds ++ round ∷ []) (unit_stand_of a) (unit_stand_of s)
       → HaveRun units (suc k) rounds starts ss → HaveRunInPart units rounds round k (a ∷ starts) (s ∷ ss)
   later : {k : ℕ} {a s : UnitState} {starts ss : List UnitState}

@@ -1,5 +1,6 @@
 -- Why serving a target stops (profile).
 use Rattle.std.specs.Prelude.{◌⊎◌, ℕ, ◌+◌, ◌≤◌, List, [], ◌∷◌, ◌++◌, Option}
+use Rattle.std.specs.List.{AllByRecursion}
 use Rattle.satl_io.specs.Causes.{Rose}
 use Rattle.satl_frame.specs.declared.frames.FrameFault.{FrameFault}
 use Rattle.satl_frame.specs.declared.frames.FrameFault.TheVariants.{Bad, ReadFault}
@@ -7,7 +8,7 @@ use Rattle.satl_frame.specs.declared.frames.Frame.{Frame}
 use Rattle.satl_fleet.specs.Headline.{BreaksInFault, BreaksInMagic, BreaksInRound, IsToldBefore, IsToldWhole}
 use Rattle.satl_fleet.specs.Moments.{FleetMoment, Streams, terms}
 use Rattle.satl_fleet.specs.Opening.{IsCauseOfOne}
-use Rattle.satl_fleet.specs.Output.{Round, frames_of}
+use Rattle.satl_fleet.specs.Output.{IsRoundOf, Round, frames_of}
 use Rattle.satl_fleet.specs.Rounds.{Stage, calls_for}
 use Rattle.satl_fleet.specs.Runs.{HaveRun, HaveRunInPart}
 use Rattle.satl_serve.specs.declared.serving.ServeFault.{ServeFault}
@@ -43,6 +44,7 @@ HasFewCallsOn units fs before after = after.calls ≤ before.calls + calls_for u
 -- an input was read up to END and told whole, and its frames were carried out (profile)
 pub record RanWhole (limit units : ℕ) (before after : Spot) : Type 0 where
   pub rounds : List Round
+  pub are_rounds : AllByRecursion (IsRoundOf units) rounds
   pub told : IsToldWhole (terms limit units) (streams_of before) (streams_of after) rounds
   pub run : HaveRun units 0 rounds before.stage.target.units after.stage.target.units
   pub calls : HasFewCallsOn units (frames_of rounds) before after
@@ -50,6 +52,7 @@ pub record RanWhole (limit units : ℕ) (before after : Spot) : Type 0 where
 -- the same up to what was refused or not read (profile)
 pub record RanBefore (limit units : ℕ) (why : FrameFault) (before after : Spot) : Type 0 where
   pub rounds : List Round
+  pub are_rounds : AllByRecursion (IsRoundOf units) rounds
   pub told : IsToldBefore (terms limit units) why (streams_of before) (streams_of after) rounds
   pub run : HaveRun units 0 rounds before.stage.target.units after.stage.target.units
   pub calls : HasFewCallsOn units (frames_of rounds) before after
@@ -64,6 +67,7 @@ pub record StoppedInMagic (units : ℕ) (before after : Spot) : Type 0 where
 pub record StoppedInAnswers (limit units : ℕ) (before after : Spot) : Type 0 where
   pub rounds : List Round
   pub round : Round
+  pub are_rounds : AllByRecursion (IsRoundOf units) (rounds ++ round ∷ [])
   pub breaks : BreaksInRound (terms limit units) (streams_of before) (streams_of after) rounds round
   pub run : HaveRun units 0 (rounds ++ round ∷ []) before.stage.target.units after.stage.target.units
       ⊎ HaveRunInPart units rounds round 0 before.stage.target.units after.stage.target.units
@@ -72,6 +76,7 @@ pub record StoppedInAnswers (limit units : ℕ) (before after : Spot) : Type 0 w
 -- a write failed in what tells a refusal (profile)
 pub record StoppedInFault (limit units : ℕ) (before after : Spot) : Type 0 where
   pub rounds : List Round
+  pub are_rounds : AllByRecursion (IsRoundOf units) rounds
   pub breaks : BreaksInFault (terms limit units) (streams_of before) (streams_of after) rounds
   pub run : HaveRun units 0 rounds before.stage.target.units after.stage.target.units
   pub calls : HasFewCallsOn units (frames_of rounds) before after

@@ -31,7 +31,8 @@ const POOL_PAGES: u32 = MOST_MOVED;
 /// each, and carries out one frame after the other up to END, which ends it. A command or a function for LUN n goes to unit n,
 /// which sees it at LUN 0, and that for another LUN to unit 0; the target answers REPORT LUNS; I_T NEXUS RESET, turns, events
 /// of the bench and END go to every unit in ascending order. Answers are written as frames, each before the next frame is read,
-/// and a frame names their unit before those of one frame. To each LUN the answers are those of its own direct device alone.
+/// and a frame names their unit before those of one frame. To each LUN the answers are those of its own direct device alone; a
+/// unit that a frame does not go to answers nothing to it.
 /// Each drive has nothing outstanding and is in no error state, and its IDENTIFY DEVICE data fit it.
 /// `Open`: the layer was not opened on each drive, for the cause told of one of them or for want of memory, and nothing was
 /// read or written. `BadInput` comes after its FAULT frame was written, with the reason and the offset of the refused frame in
