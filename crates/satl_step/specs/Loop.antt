@@ -1,5 +1,5 @@
 -- The frames of an input, carried out on one unit (profile).
-use Rattle.std.specs.Prelude.{◌≡◌, ℕ, Bool, true, false, List, [], ◌∷◌, ◌++◌, Option, None, Some, Result, IfErr, IfOk}
+use Rattle.std.specs.Prelude.{◌≡◌, ℕ, Bool, true, false, List, [], ◌∷◌, ◌++◌, Option, None, Some, Result, Ok, Err, IfErr, IfOk}
 use Rattle.satl_io.specs.Causes.{Rose, total}
 use Rattle.satl_frame.specs.declared.frames.Frame.{Frame}
 use Rattle.satl_frame.specs.declared.frames.Frame.TheVariants as frames
@@ -99,6 +99,12 @@ pub record Ran {T : Type 0} (told : T → Answer → List ℕ) (behind : T → A
     (result : Result ℕ Stop) : Type 0 where
   pub ended : IfOk result (ReachedEnd told behind before after)
   pub stopped : IfErr result (StoppedSo told behind before after)
+
+-- no page is out, unless a write failed: so many are out, by the result (profile)
+abbrev pub AreAllIn : ℕ → Result ℕ Stop → Type 0
+AreAllIn out (Ok requests) = out ≡ 0
+AreAllIn out (Err (stops.Refused why)) = out ≡ 0
+AreAllIn out (Err stops.Write) = Unit {0}
 
 -- a read fault comes only where the source's count rose, and a write fault only where the sink's did (profile)
 abbrev pub HasStopCause : ℕ → ℕ → ℕ → ℕ → Stop → Type 0

@@ -84,9 +84,9 @@ fn serve_bench<T: Teller, K: Sink, D: Bench, L: Ledger>(
     tell_replies(satl, teller, sink, replies)
 }
 
-/// Carries out one event on one unit, and tells what it answers, each reply before the next call of the layer. `WriteFault`
-/// comes only where the sink's count of faults rose; then a front of the answers was told, of which there is one at least, and
-/// the event was carried out in whole, or was cut short behind one of its turns (profile).
+/// Carries out one event on one unit, and tells the answers of each frame before it returns. `WriteFault` comes only where the
+/// sink's count of faults rose; then a front of the answers was told, of which there is one at least, and the event was carried
+/// out in whole, or was cut short behind one of its turns (profile).
 pub fn serve_event<T: Teller, K: Sink, D: Bench, L: Ledger>(
     satl: &mut Satl,
     event: Frame<'_>,

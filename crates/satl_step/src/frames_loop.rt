@@ -2,7 +2,7 @@
 ghost use Rattle.std.specs.Prelude.{◌≡◌, ◌≤◌, ◌+◌, ◌-◌, ◌^◌, min, [], ◌∷◌, None, IfErr};
 ghost use Rattle.satl_core.specs.Layer.{Tied};
 ghost use Rattle.satl_step.specs.Events.{scene_of};
-ghost use Rattle.satl_step.specs.Loop.{HasStopCause, Ran, is_end, loop_state};
+ghost use Rattle.satl_step.specs.Loop.{AreAllIn, HasStopCause, Ran, is_end, loop_state};
 ghost use Rattle.satl_step.specs.Runs.{requests_in};
 
 use crate::events::serve_event;
@@ -47,7 +47,7 @@ fn count_request(requests: u64, frame: &Frame<'_>) -> u64
 /// Carries out the frames of an input up to END on one unit, and tells the answers of each before it reads the next. Gives the
 /// number of requests, which stands still at 2^64 - 1. The reader has given no frame, and the unit has no task. `Refused`: the
 /// next frame is refused, which is told to nobody, or a read failed, where the source's count of faults rose. `Write` comes
-/// only where the sink's count rose (profile).
+/// only where the sink's count rose; else no page of the layer is out at the end (profile).
 pub fn serve_frames<S: Source, T: Teller, K: Sink, D: Bench, L: Ledger>(
     alloc: Global,
     reader: &mut FrameReader,
@@ -64,6 +64,7 @@ pub fn serve_frames<S: Source, T: Teller, K: Sink, D: Bench, L: Ledger>(
     requires fresh { reader.old.refused ≡ None }
     requires unread { reader.old.place ≡ None }
     ensures tied { Tied satl.new (D.state drive.new) }
+    ensures all_in { AreAllIn satl.new.out result }
     ensures ran { Ran T.told T.behind
         (loop_state reader.old (S.left source.old)
         (scene_of satl.old (D.state drive.old) steps.old teller.old (K.written sink.old)))

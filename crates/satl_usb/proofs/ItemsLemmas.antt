@@ -1,15 +1,17 @@
 -- What stands where a wrapper was taken.
-use Rattle.std.proofs.Common.{◌≡◌, refl, sym, ap, subst, arith, ◌∙◌, append_assoc, ℕ, ◌+◌, ◌-◌, ◌<◌, ◌≤◌, List, [], ◌∷◌, ◌++◌, length, take, drop}
+use Rattle.std.proofs.Common.{◌≡◌, refl, sym, ap, subst, arith, ◌∙◌, append_assoc, ℕ, ◌+◌, ◌-◌, ◌<◌, ◌≤◌, List, [], ◌++◌, length, take, drop}
 use Rattle.std.specs.Prelude.{Option, None, Some}
-use Rattle.std.proofs.Math.Seq.{take-append-add, take-append_seam, drop-append_seam}
-use Rattle.std.proofs.lemmas.List.{length-append}
+use Rattle.std.proofs.Math.Seq.{take-append_seam, drop-append_seam}
+use Rattle.std.proofs.lemmas.Bool.{le-ltb, lt-ltb}
+use Rattle.std.proofs.lemmas.List.{length-append, take_all}
 use Rattle.satl_bot.specs.declared.command.Cbw.{Cbw}
 use Rattle.satl_bot.specs.Wrappers.{cbw_of}
 use Rattle.satl_base.specs.declared.block.Block.{Block}
 use Rattle.satl_frame.specs.Pulls.{FewerThan, Lacks, TookPages}
+use Rattle.satl_frame.proofs.Stopping.{fewer_after}
 use Rattle.satl_io.specs.Known.{Took}
 use Rattle.satl_io.proofs.Joined.{Took-more}
-use Rattle.satl_usb.specs.Items.{HasNoItem, IsTruncated, ItemStands, TookFront, item_bytes, sent_length}
+use Rattle.satl_usb.specs.Items.{HasNoItem, ItemStands, TookAsked, asked_behind, asked_of_item, item_bytes, sent_length}
 use Rattle.satl_usb.specs.Reading.{TookHead, TookItem}
 
 -- fronts that are equally long are the same, and so are the rests
@@ -22,6 +24,14 @@ rests a b c d long is = sym (drop-append_seam a c) ∙ (ap (λ l. drop (length a
 -- an item is as long as its wrapper and what this tells
 pub spelled_length : (limit offset : ℕ) (bytes : List ℕ) (s : ItemStands limit offset bytes) → length (item_bytes s.item) ≡ 31 + sent_length s.item.command
 spelled_length limit offset bytes s = let all = length-append s.item.head s.item.body in let size = s.is_item.size in let sent = s.is_item.sent in omega (arith, all, size, sent)
+
+-- ---- how much is asked for
+
+asked_past : (limit offset : ℕ) (c : Cbw) → limit < offset + 31 + sent_length c → asked_behind limit offset (Some c) ≡ 0
+asked_past limit offset c far = rw (lt-ltb limit (offset + 31 + sent_length c) far) refl
+
+asked_within : (limit offset : ℕ) (c : Cbw) → offset + 31 + sent_length c ≤ limit → asked_behind limit offset (Some c) ≡ sent_length c
+asked_within limit offset c fits = rw (le-ltb limit (offset + 31 + sent_length c) fits) refl
 
 -- bytes begin with a wrapper
 module _ (limit offset : ℕ) (bytes head behind : List ℕ) (long : length head ≡ 31) (is : bytes ≡ head ++ behind) where
@@ -45,54 +55,59 @@ module _ (limit offset : ℕ) (bytes head behind : List ℕ) (long : length head
       let same : s.item.command ≡ command = cc in
       spelled_length limit offset bytes s ∙ ap (λ c. 31 + sent_length c) same
 
--- a wrapper that is none was taken
-pub bad_head : (left left' : Option (List ℕ)) (head : List ℕ) → length head ≡ 31 → Took left left' head → cbw_of head ≡ None → ((limit offset : ℕ) → HasNoItem limit offset left) × TookFront left left'
-bad_head None left' head long took bad = (λ limit offset. tt, tt)
-bad_head (Some bytes) None head long took bad = absurd took.known
-bad_head (Some bytes) (Some behind) head long took bad =
-    let is : bytes ≡ head ++ behind = took.known in
-    (λ limit offset. (not_empty limit offset bytes head behind long is, none_stands limit offset bytes head behind long is bad), (31, subst (Took (Some bytes) (Some behind)) (sym (ap (take 31) is ∙ (ap (λ n. take n (head ++ behind)) (sym long) ∙ take-append_seam head behind))) took))
+  front_is : take 31 bytes ≡ head
+  front_is = ap (take 31) is ∙ (ap (λ n. take n (head ++ behind)) (sym long) ∙ take-append_seam head behind)
 
--- a front that was taken, and then one behind it
-front_more : (left mid left' : Option (List ℕ)) (bytes head behind : List ℕ) (count : ℕ) → left ≡ Some bytes → bytes ≡ head ++ behind → Took left mid head → Took mid left' (take count behind) → Took left left' (take (length head + count) bytes)
-front_more left mid left' bytes head behind count known is took more =
-    subst (Took left left') (sym (ap (take (length head + count)) is ∙ take-append-add head behind count)) (Took-more took more)
+  asked_is : (o : Option Cbw) → cbw_of head ≡ o → asked_of_item limit offset bytes ≡ 31 + asked_behind limit offset o
+  asked_is o says = ap (λ x. 31 + asked_behind limit offset x) (ap cbw_of front_is ∙ says)
+
+  -- nothing is asked for behind it
+  took_head : (o : Option Cbw) → cbw_of head ≡ o → asked_behind limit offset o ≡ 0 → Took (Some bytes) (Some behind) head → TookAsked limit offset (Some bytes) (Some behind)
+  took_head o says none took =
+      let asked : asked_of_item limit offset bytes ≡ 31 = asked_is o says ∙ ap (λ n. 31 + n) none in
+      subst (Took (Some bytes) (Some behind)) (sym (ap (λ n. take n bytes) asked ∙ front_is)) took
+
+-- a wrapper that is none was taken
+pub bad_head : (left left' : Option (List ℕ)) (head : List ℕ) → length head ≡ 31 → Took left left' head → cbw_of head ≡ None → (limit offset : ℕ) → HasNoItem limit offset left × TookAsked limit offset left left'
+bad_head None left' head long took bad limit offset = (tt, tt)
+bad_head (Some bytes) None head long took bad limit offset = absurd took.known
+bad_head (Some bytes) (Some behind) head long took bad limit offset =
+    let is : bytes ≡ head ++ behind = took.known in (
+      (not_empty limit offset bytes head behind long is, none_stands limit offset bytes head behind long is bad),
+      took_head limit offset bytes head behind long is None bad refl took,
+    )
 
 -- the item that its wrapper tells ends past the limit
-pub too_far : (limit offset : ℕ) (left left' : Option (List ℕ)) (command : Cbw) → offset ≤ limit → TookHead left left' command → limit - offset < 31 + sent_length command → HasNoItem limit offset left × TookFront left left'
+pub too_far : (limit offset : ℕ) (left left' : Option (List ℕ)) (command : Cbw) → offset ≤ limit → TookHead left left' command → limit - offset < 31 + sent_length command → HasNoItem limit offset left × TookAsked limit offset left left'
 too_far limit offset None left' command near t far = (tt, tt)
 too_far limit offset (Some bytes) None command near t far = absurd t.took.known
 too_far limit offset (Some bytes) (Some behind) command near t far =
     let is : bytes ≡ t.head ++ behind = t.took.known in (
       (not_empty limit offset bytes t.head behind t.size is, λ s. let size = same_length limit offset bytes t.head behind t.size is command t.says s in absurd (omega (arith, size, s.within, far, near))),
-      (31, subst (Took (Some bytes) (Some behind)) (sym (ap (take 31) is ∙ (ap (λ n. take n (t.head ++ behind)) (sym t.size) ∙ take-append_seam t.head behind))) t.took),
+      took_head limit offset bytes t.head behind t.size is (Some command) t.says (asked_past limit offset command (omega (arith, far, near))) t.took,
     )
 
 -- fewer bytes stood behind a wrapper than it tells
-pub too_short : (limit offset : ℕ) (left mid left' : Option (List ℕ)) (command : Cbw) → TookHead left mid command → Lacks mid left' (sent_length command) → HasNoItem limit offset left × TookFront left left'
-too_short limit offset None mid left' command t lacks = (tt, tt)
-too_short limit offset (Some bytes) None left' command t lacks = absurd t.took.known
-too_short limit offset (Some bytes) (Some behind) left' command t lacks =
+pub too_short : (limit offset : ℕ) (left mid left' : Option (List ℕ)) (command : Cbw) → TookHead left mid command → Lacks mid left' (sent_length command) → offset ≤ limit → 31 + sent_length command ≤ limit - offset → HasNoItem limit offset left × TookAsked limit offset left left'
+too_short limit offset None mid left' command t lacks near fits = (tt, tt)
+too_short limit offset (Some bytes) None left' command t lacks near fits = absurd t.took.known
+too_short limit offset (Some bytes) (Some behind) left' command t lacks near fits =
     let is : bytes ≡ t.head ++ behind = t.took.known in
     let few = lacks.known.0 in
     let all : length bytes ≡ 31 + length behind = let both = ap length is ∙ length-append t.head behind in let size = t.size in omega (arith, both, size) in
-    let whole : take (length behind) behind ≡ behind = take_whole behind in (
+    let asked : asked_of_item limit offset bytes ≡ 31 + sent_length command = asked_is limit offset bytes t.head behind t.size is (Some command) t.says ∙ ap (λ n. 31 + n) (asked_within limit offset command (omega (arith, near, fits))) in
+    let whole : take (asked_of_item limit offset bytes) bytes ≡ bytes = ap (λ n. take n bytes) asked ∙ take_all (31 + sent_length command) bytes (omega (arith, all, few)) in (
       (not_empty limit offset bytes t.head behind t.size is, λ s. let size = same_length limit offset bytes t.head behind t.size is command t.says s in let fits = ap length s.split ∙ length-append (item_bytes s.item) s.rest in absurd (omega (arith, size, fits, all, few))),
-      (length t.head + length behind, front_more (Some bytes) (Some behind) left' bytes t.head behind (length behind) refl is t.took (subst (Took (Some behind) left') (sym whole) lacks.known.1)),
+      subst (Took (Some bytes) left') (sym (whole ∙ is)) (Took-more t.took lacks.known.1),
     )
-  where
-    take_whole : (xs : List ℕ) → take (length xs) xs ≡ xs
-    take_whole [] = refl
-    take_whole (x ∷ xs) = ap (λ l. x ∷ l) (take_whole xs)
 
 -- a read failed within what a wrapper tells
-pub cut_body : (limit offset : ℕ) (left mid left' : Option (List ℕ)) (command : Cbw) → TookHead left mid command → FewerThan mid left' (λ _. sent_length command) → IsTruncated limit offset left left'
-cut_body limit offset None mid left' command t fewer = tt
-cut_body limit offset (Some bytes) None left' command t fewer = absurd t.took.known
-cut_body limit offset (Some bytes) (Some behind) left' command t fewer =
-    let is : bytes ≡ t.head ++ behind = t.took.known in
-    let few = fewer.known.1 in
-    (length t.head + fewer.known.0, front_more (Some bytes) (Some behind) left' bytes t.head behind fewer.known.0 refl is t.took fewer.known.2, λ s. let size = same_length limit offset bytes t.head behind t.size is command t.says s in let long = t.size in omega (arith, size, few, long))
+pub cut_body : (limit offset : ℕ) (left mid left' : Option (List ℕ)) (command : Cbw) → TookHead left mid command → FewerThan mid left' (λ _. sent_length command) → offset ≤ limit → 31 + sent_length command ≤ limit - offset → FewerThan left left' (asked_of_item limit offset)
+cut_body limit offset left mid left' command t fewer near fits =
+    fewer_after (asked_of_item limit offset) t.took (λ behind. let asked = asked_is limit offset (t.head ++ behind) t.head behind t.size refl (Some command) t.says ∙ ap (λ n. 31 + n) (asked_within limit offset command (omega (arith, near, fits))) in no_more (sent_length command) t.size asked) fewer
+  where
+    no_more : {a b : ℕ} (n : ℕ) → a ≡ 31 → b ≡ 31 + n → a + n ≤ b
+    no_more n is asked = omega arith
 
 -- a wrapper was taken, and the data that it tells
 pub took_item : (limit offset room : ℕ) (left mid left' : Option (List ℕ)) (command : Cbw) (body : List Block) → TookHead left mid command → TookPages mid left' (sent_length command) room body → offset ≤ limit → 31 + sent_length command ≤ limit - offset → TookItem limit offset room left left' (record { command = command; body = body })

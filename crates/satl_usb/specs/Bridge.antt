@@ -5,9 +5,10 @@ use Rattle.arrayvec.specs.ArrayVec.{ArrayVec}
 use Rattle.satl_io.specs.Known.{Took, Wrote, WrotePart}
 use Rattle.satl_frame.specs.declared.frames.Frame.{Frame}
 use Rattle.satl_frame.specs.Output.{Answer}
+use Rattle.satl_frame.specs.Pulls.{FewerThan}
 use Rattle.satl_step.specs.Runs.{RunSoFar}
 use Rattle.satl_serve.specs.Moments.{Spot}
-use Rattle.satl_usb.specs.Items.{AreItems, HasNoItem, IsTruncated, Item, TookFront, bytes_of_items}
+use Rattle.satl_usb.specs.Items.{AreItems, HasNoItem, Item, TookAsked, asked_of_item, bytes_of_items}
 use Rattle.satl_usb.specs.Exchanges.{Exchange}
 
 -- these items were taken from the source (profile)
@@ -45,22 +46,22 @@ pub record BridgedWhole (limit : ℕ) (before after : Spot) : Type 0 where
   pub deep : bridged.run.deep ≤ after.stand.tally.deepest
 
 -- the items before an offset were taken and carried out, and what they are on the wire was written; what stands at the offset
--- is refused, and nothing is written for it (profile)
+-- is refused: of it as much was taken as is asked for, and nothing is written for it (profile)
 pub record BridgedBefore (limit offset : ℕ) (before after : Spot) : Type 0 where
   pub talk : Talk
   pub mid : Option (List ℕ)
   pub bridged : Bridged limit before (record after { left = mid }) talk
   pub offset_is : offset ≡ length (bytes_of_items talk.items)
   pub refused : HasNoItem limit offset mid
-  pub front : TookFront mid after.left
+  pub front : TookAsked limit offset mid after.left
   pub wrote : Wrote before.written after.written talk.wire
 
--- the same, and a read failed before the next whole item was taken (profile)
+-- the same, and a read failed before all was taken that is asked for of the next item (profile)
 pub record BridgedUpTo (limit : ℕ) (before after : Spot) : Type 0 where
   pub talk : Talk
   pub mid : Option (List ℕ)
   pub bridged : Bridged limit before (record after { left = mid }) talk
-  pub cut_off : IsTruncated limit (length (bytes_of_items talk.items)) mid after.left
+  pub cut_off : FewerThan mid after.left (asked_of_item limit (length (bytes_of_items talk.items)))
   pub wrote : Wrote before.written after.written talk.wire
 
 -- items were taken and carried out, and a front of what they are on the wire was written (profile)

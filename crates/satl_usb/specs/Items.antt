@@ -1,6 +1,6 @@
 -- The input of the bridge: commands as they stand on the wire, each with the data that is sent with it (USB Mass Storage Class,
 -- Bulk-Only Transport 1.0, 5.3).
-use Rattle.std.specs.Prelude.{◌≡◌, ℕ, ◌+◌, ◌<◌, ◌≤◌, List, [], ◌∷◌, ◌++◌, length, take, Option, Some, IfSome, if◌then◌else◌}
+use Rattle.std.specs.Prelude.{◌≡◌, ℕ, ◌+◌, ◌≤◌, nat_lt, List, [], ◌∷◌, ◌++◌, length, take, Option, None, Some, IfSome, if◌then◌else◌}
 use Rattle.std.specs.List.{flat_map}
 use Rattle.satl_io.specs.Known.{Took}
 use Rattle.satl_bot.specs.declared.command.Cbw.{Cbw}
@@ -42,16 +42,20 @@ pub record ItemStands (limit offset : ℕ) (bytes : List ℕ) : Type 0 where
   pub split : bytes ≡ item_bytes item ++ rest
   pub within : offset + length (item_bytes item) ≤ limit
 
--- some front of what was left was taken
-abbrev pub TookFront : Option (List ℕ) → Option (List ℕ) → Type 0
-TookFront left left' = IfSome left (λ bytes. (count : ℕ) × Took left left' (take count bytes))
-
 -- what stands at the offset is refused: there is a byte, and no item (profile)
 abbrev pub HasNoItem : ℕ → ℕ → Option (List ℕ) → Type 0
 HasNoItem limit offset left = IfSome left (λ bytes. (bytes ≡ [] → ⊥) × (ItemStands limit offset bytes → ⊥))
 
--- a front was taken that has no whole item
-abbrev pub IsTruncated : ℕ → ℕ → Option (List ℕ) → Option (List ℕ) → Type 0
-IsTruncated limit offset left left' =
-    IfSome left (λ bytes. (count : ℕ) × Took left left' (take count bytes)
-    × ((s : ItemStands limit offset bytes) → count < length (item_bytes s.item)))
+-- how many bytes are asked for behind the wrapper of an item that begins at the offset: the data that a good one tells, unless
+-- the item would end past the limit (5.3; the limit: profile)
+abbrev pub asked_behind : ℕ → ℕ → Option Cbw → ℕ
+asked_behind limit offset None = 0
+asked_behind limit offset (Some c) = if nat_lt limit (offset + 31 + sent_length c) then 0 else sent_length c
+
+-- how many bytes of what stands at the offset are asked for: 31 of a wrapper, and those behind it (profile)
+abbrev pub asked_of_item : ℕ → ℕ → List ℕ → ℕ
+asked_of_item limit offset bytes = 31 + asked_behind limit offset (cbw_of (take 31 bytes))
+
+-- as many bytes were taken as are asked for, or all where there are fewer (profile)
+abbrev pub TookAsked : ℕ → ℕ → Option (List ℕ) → Option (List ℕ) → Type 0
+TookAsked limit offset left left' = IfSome left (λ bytes. Took left left' (take (asked_of_item limit offset bytes) bytes))

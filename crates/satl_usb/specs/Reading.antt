@@ -10,7 +10,7 @@ use Rattle.satl_io.specs.Known.{Took}
 use Rattle.satl_usb.specs.declared.items.ItemFault.{ItemFault}
 use Rattle.satl_usb.specs.declared.items.ItemFault.TheVariants as faults
 use Rattle.satl_usb.specs.declared.items.Taken.{Taken}
-use Rattle.satl_usb.specs.Items.{HasNoItem, IsItem, IsTruncated, Item, TookFront, item_bytes}
+use Rattle.satl_usb.specs.Items.{HasNoItem, IsItem, Item, TookAsked, asked_of_item, item_bytes}
 
 -- nothing was left to take
 pub record WasAtEnd (left left' : Option (List ℕ)) : Type 0 where
@@ -38,9 +38,9 @@ abbrev pub HeadRead : Option (List ℕ) → Option (List ℕ) → Option Cbw →
 HeadRead left left' None = WasAtEnd left left'
 HeadRead left left' (Some command) = TookHead left left' command
 
--- no wrapper: what is left is refused, or a read failed within 31 bytes
+-- no wrapper: what is left is refused, wherever it stands, and what is asked for was taken; or a read failed within 31 bytes
 abbrev pub HeadMissed : Option (List ℕ) → Option (List ℕ) → ItemFault → Type 0
-HeadMissed left left' faults.Bad = ((limit offset : ℕ) → HasNoItem limit offset left) × TookFront left left'
+HeadMissed left left' faults.Bad = (limit offset : ℕ) → HasNoItem limit offset left × TookAsked limit offset left left'
 HeadMissed left left' faults.Failed = FewerThan left left' (λ _. 31)
 
 -- an item, or the end of the source
@@ -48,10 +48,10 @@ abbrev pub ItemRead : ℕ → ℕ → ℕ → Option (List ℕ) → Option (List
 ItemRead limit offset room left left' None = WasAtEnd left left'
 ItemRead limit offset room left left' (Some taken) = TookItem limit offset room left left' taken
 
--- no item: what stands there is refused, or a read failed within the item
+-- no item: what stands there is refused, and what is asked for was taken; or a read failed, and less was taken than that
 abbrev pub ItemMissed : ℕ → ℕ → Option (List ℕ) → Option (List ℕ) → ItemFault → Type 0
-ItemMissed limit offset left left' faults.Bad = HasNoItem limit offset left × TookFront left left'
-ItemMissed limit offset left left' faults.Failed = IsTruncated limit offset left left'
+ItemMissed limit offset left left' faults.Bad = HasNoItem limit offset left × TookAsked limit offset left left'
+ItemMissed limit offset left left' faults.Failed = FewerThan left left' (asked_of_item limit offset)
 
 -- a read failed only where the count rose, which has not fallen
 pub record ItemCauses {T : Type 0} (before now : ℕ) (result : Result T ItemFault) : Type 0 where

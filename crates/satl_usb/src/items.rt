@@ -65,9 +65,10 @@ fn read_head<S: Source>(source: &mut S) -> Result<Option<Cbw>, ItemFault>
 }
 
 /// Takes the next item, which stands at an offset of the input: a wrapper, and the data that the host sends behind it. None at
-/// the end of the source. `Bad`: a byte stands there, and no item that ends within 2^40 bytes. `Failed` comes only where the
-/// source's count of faults rose; then no whole item was taken (USB Mass Storage Class, Bulk-Only Transport 1.0, 5.3; the
-/// limit: profile).
+/// the end of the source. `Bad`: a byte stands there, and no item that ends within 2^40 bytes. Of what stands there 31 bytes
+/// are asked for, and behind a good wrapper whose item would end within the limit the data that it tells: at `Bad` so many
+/// were taken, or all where there are fewer. `Failed` comes only where the source's count of faults rose; then fewer were taken
+/// (USB Mass Storage Class, Bulk-Only Transport 1.0, 5.3; the limit: profile).
 pub fn next_item<S: Source, P: Lender>(
     source: &mut S,
     lender: &mut P,

@@ -23,9 +23,11 @@ returns-in-Err-Short-clause-missed g c =
     too_short input_limit c.args.offset (g.S.Source.left c.args.source.now) (g.S.Source.left c.read_head.new.source) (g.S.Source.left c.pull_data.new.source) c.in-Some.command
     (subst (HeadRead (g.S.Source.left c.args.source.now) (g.S.Source.left c.read_head.new.source)) c.in-Some.is c.in_ok-command.ensures.read)
     (subst (Lacks (g.S.Source.left c.read_head.new.source) (g.S.Source.left c.pull_data.new.source)) c.sent_length-length.ensures (c.in-Err-Short.ensures.causes.short (ap Err c.in-Err-Short.field-0-is)))
+    c.requires.near (omega (arith, c.if-offset-from.false, c.from.ensures, c.sent_length-length.ensures))
 
 pub returns-in-Err-Failed-clause-missed : goal.returns-in-Err-Failed-clause-missed
 returns-in-Err-Failed-clause-missed g c =
     cut_body input_limit c.args.offset (g.S.Source.left c.args.source.now) (g.S.Source.left c.read_head.new.source) (g.S.Source.left c.pull_data.new.source) c.in-Some.command
     (subst (HeadRead (g.S.Source.left c.args.source.now) (g.S.Source.left c.read_head.new.source)) c.in-Some.is c.in_ok-command.ensures.read)
     (subst (λ n. FewerThan (g.S.Source.left c.read_head.new.source) (g.S.Source.left c.pull_data.new.source) (λ _. n)) c.sent_length-length.ensures (c.in-Err-Failed.ensures.stopped (ap Err c.in-Err-Failed.field-0-is)))
+    c.requires.near (omega (arith, c.if-offset-from.false, c.from.ensures, c.sent_length-length.ensures))
