@@ -1,3 +1,4 @@
 pub mod Containers
 pub mod Ends
 pub mod Faults
+pub mod Undisturbed
