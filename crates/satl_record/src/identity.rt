@@ -1,8 +1,9 @@
 // The identity of the drive.
-ghost use Rattle.std.specs.Prelude.{◌≡◌, ◌≤◌, ◌+◌, ◌⊎◌, Ok, IfOk, IfErr, IsErrOf, map};
+ghost use Rattle.std.specs.Prelude.{◌≡◌, ◌≤◌, ◌+◌, ◌⊎◌, Ok, IfOk, IfErr, IsErrOf};
 ghost use Rattle.satl_identify.specs.Refusals.{IsIdentity, identity_of};
 ghost use Rattle.satl_barrier.specs.Leaving.{IsFree};
 ghost use Rattle.satl_record.specs.Ends.{IsRefusedFor};
+ghost use Rattle.satl_barrier.specs.Commands.{IsUndisturbed};
 ghost use Rattle.satl_record.specs.declared.fault.RecordFault.TheVariants as faults;
 
 use crate::fault::RecordFault;
@@ -14,8 +15,8 @@ use std::alloc::Global;
 use std::sync::ledger::Ledger;
 
 /// The identity that a drive's IDENTIFY DEVICE data give (profile). `Drive` where they are refused, or the link was lost before
-/// they were read; `NoMemory` where there is none for 512 bytes. Nothing else is asked of the drive, and what it reads stays
-/// the same.
+/// they were read; `NoMemory` where there is none for 512 bytes. The drive is called once at most, and left undisturbed: it is
+/// as it was, but for entries that its sectors may be left with, and, where its link was lost meanwhile, for what that does.
 pub fn told_identity<D: Drive, L: Ledger>(
     alloc: Global,
     drive: &mut D,
@@ -27,8 +28,7 @@ pub fn told_identity<D: Drive, L: Ledger>(
     ensures kinds { IfErr result (λ fault. (fault ≡ faults.Drive) ⊎ (fault ≡ faults.NoMemory)) }
     ensures cause { IsErrOf result faults.Drive
         → IsRefusedFor (D.state drive.old).identify (D.state drive.old).faults (D.state drive.new).faults }
-    ensures nows { map (λ c. c.now) (D.state drive.new).cells ≡ map (λ c. c.now) (D.state drive.old).cells }
-    ensures unplugs { (D.state drive.new).unplugs ≡ (D.state drive.old).unplugs }
+    ensures alone { IsUndisturbed (D.state drive.old) (D.state drive.new) }
     ensures steps { steps.new ≤ steps.old + 1 }
 {
     let page = Page::zeroed(alloc)?;

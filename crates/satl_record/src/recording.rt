@@ -1,8 +1,9 @@
 // A record is read, judged and told.
-ghost use Rattle.std.specs.Prelude.{◌≡◌, ◌≤◌, ◌+◌, IsErrOf, map};
+ghost use Rattle.std.specs.Prelude.{◌≡◌, ◌≤◌, ◌+◌, IsErrOf};
 ghost use Rattle.satl_io.specs.Causes.{Rose};
 ghost use Rattle.satl_barrier.specs.Leaving.{IsFree};
 ghost use Rattle.satl_record.specs.Ends.{IsRefusedFor, RecordEnds};
+ghost use Rattle.satl_barrier.specs.Commands.{IsUndisturbed};
 ghost use Rattle.satl_record.specs.declared.fault.RecordFault.TheVariants as faults;
 
 use crate::container::read_record;
@@ -17,7 +18,7 @@ use std::alloc::Global;
 use std::sync::ledger::Ledger;
 
 /// Says in a line whether the record of a source is that of a run, for a device of the drive's identity (profile). The drive is
-/// asked for its IDENTIFY DEVICE data alone. Each fault but `BadInput` and `Write` leaves the sink as it was: `Drive` comes
+/// called once at most, and left undisturbed. Each fault but `BadInput` and `Write` leaves the sink as it was: `Drive` comes
 /// first, and then nothing is read; `Read` and `Write` come only where the count of faults rose; `NoMemory` may come at any
 /// time.
 pub fn audit_record<S: Source, K: Sink, D: Drive, L: Ledger>(
@@ -39,9 +40,8 @@ pub fn audit_record<S: Source, K: Sink, D: Drive, L: Ledger>(
     ensures refused { IsErrOf result faults.Drive
         → IsRefusedFor (D.state drive.old).identify (D.state drive.old).faults (D.state drive.new).faults }
 
-    // Of the drive little changes.
-    ensures nows { map (λ c. c.now) (D.state drive.new).cells ≡ map (λ c. c.now) (D.state drive.old).cells }
-    ensures unplugs { (D.state drive.new).unplugs ≡ (D.state drive.old).unplugs }
+    // The drive is left undisturbed, and called once at most.
+    ensures alone { IsUndisturbed (D.state drive.old) (D.state drive.new) }
     ensures steps { steps.new ≤ steps.old + 1 }
 {
     let identity = told_identity(alloc, drive, steps)?;

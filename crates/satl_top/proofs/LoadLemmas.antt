@@ -20,7 +20,6 @@ use Rattle.satl_serve.specs.declared.serving.ServeFault.TheVariants as faults
 use Rattle.satl_serve.specs.declared.telling.Form.TheVariants as forms
 use Rattle.satl_top.specs.Faults.{status_of}
 use Rattle.satl_top.specs.Load.{IsLoaded, Load, LoadEnds, LoadStops, input_of, nowhere}
-use Rattle.satl_words.specs.declared.modes.Mode.TheVariants as modes
 use Rattle.satl_top.specs.Top.{HasStatusCause}
 use Rattle.satl_top.proofs.RequestLemmas.{frames_read, total_is}
 use Rattle.satl_top.specs.declared.status.Status.{Status}

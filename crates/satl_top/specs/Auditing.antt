@@ -1,8 +1,9 @@
 -- What judging a record does (profile).
-use Rattle.std.specs.Prelude.{◌≡◌, ◌+◌, ◌≤◌, map, Result, Ok, Err}
+use Rattle.std.specs.Prelude.{◌≡◌, ◌+◌, ◌≤◌, Result, Ok, Err}
 use Rattle.satl_audit.specs.declared.verdict.Verdict.{Verdict}
 use Rattle.satl_audit.specs.declared.verdict.Verdict.TheVariants as says
 use Rattle.satl_record.specs.Ends.{RecordEnds}
+use Rattle.satl_barrier.specs.Commands.{IsUndisturbed}
 use Rattle.satl_record.specs.declared.fault.RecordFault.{RecordFault}
 use Rattle.satl_record.specs.declared.fault.RecordFault.TheVariants as faults
 use Rattle.satl_serve.specs.Moments.{Moment}
@@ -22,11 +23,10 @@ status_of_record (Err faults.Write) = statuses.WriteFault
 status_of_record (Err faults.NoMemory) = statuses.NoMemory
 
 -- a record was judged, or was not, as the status tells (profile): it was read and told as that says; the drive was called once
--- at most, each of its sectors reads as before, and it was not unplugged
+-- at most, and was left undisturbed
 pub record AuditEnds (before after : Moment) (status : Status) : Type 0 where
   pub ended : Result Verdict RecordFault
   pub status_is : status ≡ status_of_record ended
   pub ends : RecordEnds before.drive.identify before.source.left after.source.left before.sink.written after.sink.written ended
   pub calls : after.calls ≤ before.calls + 1
-  pub nows : map (λ c. c.now) after.drive.cells ≡ map (λ c. c.now) before.drive.cells
-  pub unplugs : after.drive.unplugs ≡ before.drive.unplugs
+  pub undisturbed : IsUndisturbed before.drive after.drive

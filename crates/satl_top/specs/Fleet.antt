@@ -1,17 +1,21 @@
 -- The words of the fleet, and what the program does with several drives (profile).
-use Rattle.std.specs.Prelude.{◌≡◌, ◌↔◌, ℕ, List, [], ◌∷◌, codes}
-use Rattle.clap.specs.Words.{Text}
+use Rattle.std.specs.Prelude.{◌≡◌, ◌↔◌, ◌⊎◌, ℕ, List, [], ◌∷◌, codes, true}
+use Rattle.clap.specs.Words.{Text, takes}
 use Rattle.satl_io.specs.Causes.{Rose}
 use Rattle.satl_frame.specs.declared.frames.FrameFault.TheVariants.{Bad, ReadFault}
 use Rattle.satl_frame.specs.declared.frames.Reason.{Reason}
 use Rattle.satl_drive.specs.State.{DriveState}
 use Rattle.satl_core.specs.declared.satl.OpenFault.{OpenFault}
-use Rattle.satl_serve.specs.Moments.{moment}
+use Rattle.satl_serve.specs.Moments.{Moment, moment}
 use Rattle.satl_fleet.specs.Headline.{IsFleetBefore, IsFleetInPart, IsFleetNotServed, IsFleetWhole}
 use Rattle.satl_fleet.specs.Moments.{FleetMoment}
 use Rattle.satl_fleet.specs.Opening.{IsCauseOfOne}
+use Rattle.satl_words.specs.Asked.{AreRefused}
+use Rattle.satl_words.specs.CommandLine.{command_line}
+use Rattle.satl_words.specs.Plain.{ArePlain, IsInRange}
+use Rattle.satl_words.specs.declared.modes.Mode.{Mode}
 use Rattle.satl_top.specs.Faults.{status_of_open}
-use Rattle.satl_top.specs.Top.{OutcomeByWords}
+use Rattle.satl_top.specs.Top.{HasCarriedOut, OutcomeByWords}
 use Rattle.satl_top.specs.declared.status.Status.{Status}
 use Rattle.satl_top.specs.declared.status.Status.TheVariants as statuses
 
@@ -42,15 +46,25 @@ HasFleetStatusCause before after statuses.DriveRefused =
     (fault : OpenFault) × (status_of_open fault ≡ statuses.DriveRefused) × IsCauseOfOne fault before.drives after.drives
 HasFleetStatusCause before after _ = Unit {0}
 
--- what `satl` does with the first drive; the others stay as they are (profile)
+-- a moment of several drives, of which one alone is seen (profile)
+abbrev pub moment_of_one : FleetMoment → DriveState → Moment
+moment_of_one m drive = moment m.source m.sink m.calls drive
+
+-- what `satl` does with the first drive; the others stay as they are (profile). Plain words are carried out as the mode that
+-- they spell. Status 2 comes only where the words are refused, and not where clap takes them; and where they are refused none
+-- comes but 2 or, for want of memory, 6
 pub record OnFirst (words : List Text) (limit : ℕ) (before after : FleetMoment) (status : Status) : Type 0 where
   pub first : DriveState
   pub last : DriveState
   pub others : List DriveState
   pub olds : before.drives ≡ first ∷ others
   pub news : after.drives ≡ last ∷ others
-  pub outcome : OutcomeByWords words limit (moment before.source before.sink before.calls first)
-      (moment after.source after.sink after.calls last) status
+  pub plain : (mode : Mode) → IsInRange mode → ArePlain words mode
+      → HasCarriedOut mode limit (moment_of_one before first) (moment_of_one after last) status
+  pub usage : status ≡ statuses.Usage → AreRefused words
+  pub refused : AreRefused words → (status ≡ statuses.Usage) ⊎ (status ≡ statuses.NoMemory)
+  pub taken : takes command_line words ≡ true → status ≡ statuses.Usage → ⊥
+  pub outcome : OutcomeByWords words limit (moment_of_one before first) (moment_of_one after last) status
 
 -- all drives were served as one target, where the words ask for it: what holds by the status, and why it is that one (profile)
 pub record HasServedFleet (words : List Text) (limit : ℕ) (before after : FleetMoment) (status : Status) : Type 0 where

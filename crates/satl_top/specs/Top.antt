@@ -17,6 +17,7 @@ use Rattle.satl_serve.specs.Stopping.{IsDriveRefused}
 use Rattle.satl_words.specs.declared.modes.Mode.{Mode}
 use Rattle.satl_words.specs.declared.modes.Mode.TheVariants as modes
 use Rattle.satl_words.specs.Asked.{AreRefused, AskFor}
+use Rattle.satl_words.specs.Plain.{IsInRange}
 use Rattle.satl_usb.specs.Headline.{IsItemInput}
 use Rattle.satl_usb.specs.Items.{Item}
 use Rattle.satl_top.specs.Bridging.{BridgeEnds}
@@ -118,7 +119,8 @@ pub record IsUnused (words : List Text) (before after : Moment) (status : Status
   pub why : ((status ≡ statuses.Usage) × AreRefused words) ⊎ (status ≡ statuses.NoMemory)
   pub stays : after ≡ before
 
--- the outcome by the words (profile): nothing was done, or the words ask for a mode, which was carried out
+-- the outcome by the words (profile): nothing was done, or the words ask for a mode in range, which was carried out
 abbrev pub OutcomeByWords : List Text → ℕ → Moment → Moment → Status → Type 0
 OutcomeByWords words limit before after status =
-    IsUnused words before after status ⊎ ((mode : Mode) × AskFor words mode × HasCarriedOut mode limit before after status)
+    IsUnused words before after status
+    ⊎ ((mode : Mode) × IsInRange mode × AskFor words mode × HasCarriedOut mode limit before after status)

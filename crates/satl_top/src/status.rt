@@ -9,17 +9,18 @@ use satl_usb::UsbFault;
 /// How the program ends (profile).
 #[derive(Clone, Copy, Debug, PartialEq, Eq)]
 pub enum Status {
-    /// The whole input was carried out.
+    /// The whole input was carried out; or the output of the record is that of a run.
     Done,
     /// The words are not understood.
     Usage,
-    /// The input is refused. A FAULT frame, or a line of text, says why and where, but for a bridge.
+    /// The input is refused. A FAULT frame, or a line of text, says why and where, but for a bridge, and for bytes that are no
+    /// record.
     BadInput,
     /// A read failed.
     ReadFault,
     /// A write failed.
     WriteFault,
-    /// There was not the memory to begin.
+    /// There was not the memory to begin, or to judge a record.
     NoMemory,
     /// The layer does not serve the drive, or its link was lost before the layer was open.
     DriveRefused,

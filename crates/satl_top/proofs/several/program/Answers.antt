@@ -15,6 +15,10 @@ returns g c = record {
     others = map g.D.Drive.state (drop 1 c.args.drives.now.items);
     olds = first_old g.D.Drive.state c.args.drives.now.items c.index_mut-first.result.now (omega (arith, c.requires.some, c.args.drives.now.ok.0)) c.index_mut-first.ensures.value;
     news = first_new g.D.Drive.state c.args.drives.now.items c.satl.new.drive (omega (arith, c.requires.some, c.args.drives.now.ok.0));
+    plain = c.satl.ensures.plain;
+    usage = c.satl.ensures.usage;
+    refused = c.satl.ensures.refused;
+    taken = λ taken usage. c.satl.ensures.takes usage taken;
     outcome = c.satl.ensures.outcome;
   };
 }
