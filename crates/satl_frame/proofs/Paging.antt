@@ -207,9 +207,6 @@ pub all_filled : (lent n : ℕ) (taken : List ℕ) (pages : List Block) → leng
 all_filled lent n taken pages size few is =
     ap length is ∙ length-take-le lent (pages_of taken) (omega (arith, length-pages_of taken ∙ ap page_count size))
 
-pub length-zeros : (n : ℕ) → length (zero_bytes n) ≡ n
-length-zeros n = length-replicate n 0
-
 -- a whole block is one page of its bytes, and whole blocks are the pages of theirs
 pub one_page : (b : Block) → length b.bytes ≡ 512 → pages_of b.bytes ≡ b ∷ []
 unfolding pages_of pages_from

@@ -10,8 +10,8 @@ use Rattle.satl_frame.specs.DataPages.{pages_of}
 use Rattle.satl_frame.proofs.Paging.{length-pages_of}
 use Rattle.satl_core.specs.Submitting.{CanSubmit}
 use Rattle.satl_step.specs.Events.{Scene}
-use Rattle.satl_usb.specs.Answering.{AnswersItem, Desk, Point, SendsItem, Sent, SentInPart, point, request_taken}
-use Rattle.satl_usb.specs.Exchanges.{is_told_kept, item_behind, item_told}
+use Rattle.satl_usb.specs.Answering.{Point, SendsItem, Sent, SentInPart, point, request_taken}
+use Rattle.satl_usb.specs.Exchanges.{item_behind, item_told}
 use Rattle.satl_usb.specs.Items.{sent_length}
 use Rattle.satl_usb.specs.Reading.{TookItem}
 use Rattle.satl_usb.specs.Serving.{Exchanged, ExchangedInPart}
@@ -38,11 +38,6 @@ sent_in_part taken a b same x = record {
 pub sends_in_part : {E : Type 0} (taken : Taken) (a b : Point) (r : Result (Option (ArrayVec ℕ)) E) (P : E → Type 0) → IsErrAnd r P → SentInPart taken a b → SendsItem taken a b r
 sends_in_part taken a b (Ok kept) P failed part = absurd failed
 sends_in_part taken a b (Err e) P failed part = record { sent = tt; part = part }
-
--- an item that is not answered with what is kept is sent
-pub answers_sent : {E : Type 0} (taken : Taken) (a : Desk) (b : Point) (r : Result (Option (ArrayVec ℕ)) E) → is_told_kept a.kept taken.command ≡ false → SendsItem taken a.at b r → AnswersItem taken a b r
-answers_sent taken a b (Ok kept) other s = record { answered = inr (other, s.sent); part = tt }
-answers_sent taken a b (Err e) other s = record { answered = tt; part = inr (other, s.part) }
 
 -- pages hold all that was sent, or none is free for more
 pub held : (limit offset room : ℕ) (left left' : Option (List ℕ)) (taken : Taken) (free out : ℕ) → TookItem limit offset room left left' taken → free + length taken.body ≡ room → out ≡ length taken.body → CanSubmit (request_taken taken) free out
