@@ -125,8 +125,8 @@ pub fn functions_take_no_other_tasks()
         IsManaged m s response new → new ≡ s }
     ensures query_set { (s new : Device) (m : Manage) (response : Response) →
         function_of m.function ≡ Some functions.QueryTaskSet → IsManaged m s response new → new ≡ s }
-    ensures abort_one { (s new : Device) (m : Manage) (response : Response) → function_of m.function ≡ Some functions.AbortTask →
-        is_unit_0 m.lun ≡ true → IsManaged m s response new →
+    ensures abort_one { (s new : Device) (m : Manage) (response : Response) →
+        function_of m.function ≡ Some functions.AbortTask → is_unit_0 m.lun ≡ true → IsManaged m s response new →
         new.tasks ≡ filter (λ t. not (is_called m.nexus (m.tag).0 t)) s.tasks }
     ensures reset { (s new : Device) (m : Manage) (response : Response) → function_of m.function ≡ Some functions.NexusReset →
         IsManaged m s response new → new.tasks ≡ of_others m.nexus s.tasks }

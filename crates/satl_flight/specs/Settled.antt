@@ -125,8 +125,8 @@ pub record HasEndedAt (place : ℕ) (outcome : Outcome) (old new : OnDrive) : Ty
   }
   pub deep : Deepens old.drive new.drive
 
--- the entry of the error log tells of the task that failed, by its tag: it failed at its lowest flaw, or by a CRC error where it
--- has none (ACS-3 annex A, log 10h; profile)
+-- the entry of the error log tells of the task that failed, by its tag: it failed at its lowest flaw, or by a CRC error where
+-- it has none (ACS-3 annex A, log 10h; profile)
 pub record IsEntryOf (task : Held) (ranged : RangedTask) (old new : OnDrive) (e : NcqError) : Type 0 where
   pub tagged : find (has_tag e.tag) old.queue.flying ≡ Some (record { tag = e.tag; slot = task.slot })
   pub cause : MatchOption (queued_flaw old.drive.cells (queued_for e.tag ranged))

@@ -11,8 +11,8 @@ const STRETCH: u64 = 64;
 /// How many regions there are (profile).
 const REGIONS: usize = 256;
 
-/// For each region the slots whose task has the first or the last block of its span there, as the bits of a number. The slots of
-/// broad tasks, which stand alone or span more than two stretches, are in a number of their own.
+/// For each region the slots whose task has the first or the last block of its span there, as the bits of a number. The slots
+/// of broad tasks, which stand alone or span more than two stretches, are in a number of their own.
 #[derive(Clone, Copy)]
 pub(crate) struct Regions {
     near: [u64; REGIONS],

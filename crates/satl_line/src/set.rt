@@ -282,8 +282,8 @@ impl TaskSet {
         &self.masks
     }
 
-    /// The slots of the tasks that conflict with a new one, as the bits of a number. Where none may, as among READs alone, no task
-    /// and no outline is looked at.
+    /// The slots of the tasks that conflict with a new one, as the bits of a number. Where none may, as among READs alone, no
+    /// task and no outline is looked at.
     fn mask_for(&self, entry: &Entry, outline: &Outline) -> u64
         requires { IsOutline entry.now outline.now }
         ensures { IsMask (map mark_of self.now) (access_of entry.now) result }
