@@ -4,5 +4,6 @@ pub mod OutlinesLemmas
 pub mod PassedLemmas
 pub mod RegionsLemmas
 pub mod SlotsLemmas
+pub mod NearLemmas
 pub mod EligibleLemmas
 pub mod EndingLemmas

@@ -2,7 +2,8 @@ use Rattle.std.proofs.Common.{refl, sym, ◌∙◌, ◌<◌, get_or}
 use Rattle.satl_line.specs.Blank.{no_entry}
 use Rattle.satl_line.specs.Outlines.{IsOutline, outline_in}
 use Rattle.satl_line.specs.Regions.{MayLeaveOut}
-use Rattle.satl_line.proofs.SlotsLemmas.{mask_step_yes, mask_step_no, All-at, at_place}
+use Rattle.satl_line.proofs.NearLemmas.{at_place}
+use Rattle.satl_line.proofs.SlotsLemmas.{mask_step_yes, mask_step_no, All-at}
 use Rattle.satl_line.proofs.set.mask_against.Goals as goal
 use Rattle.satl_line.proofs.set.mask_against.Goals.{then-conflicts_among, else-conflicts_among}
 

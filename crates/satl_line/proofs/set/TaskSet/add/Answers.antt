@@ -1,7 +1,8 @@
 use Rattle.std.proofs.Common.{◌∙◌, ap, arith}
 use Rattle.satl_line.specs.Layout.{with_slot}
 use Rattle.satl_line.proofs.PassedLemmas.{with_place}
-use Rattle.satl_line.proofs.SlotsLemmas.{comes_from, counts_few, near_with, slot_free}
+use Rattle.satl_line.proofs.NearLemmas.{near_with, slot_free}
+use Rattle.satl_line.proofs.SlotsLemmas.{comes_from, counts_few}
 use Rattle.satl_line.proofs.set.TaskSet.add.Goals as goal
 
 pub invariant_of-self : goal.invariant_of-self

@@ -1,7 +1,7 @@
 use Rattle.std.proofs.Common.{◌∙◌, refl, sym, inl, inr, subst, bit_and}
 use Rattle.std.specs.List.{AllByRecursion}
 use Rattle.satl_line.specs.Regions.{MayLeaveOut}
-use Rattle.satl_line.proofs.SlotsLemmas.{are_left_out}
+use Rattle.satl_line.proofs.NearLemmas.{are_left_out}
 use Rattle.satl_line.proofs.set.TaskSet.candidates.Goals as goal
 
 pub returns-then-is_active : goal.returns-then-is_active

@@ -1,4 +1,4 @@
-use Rattle.satl_line.proofs.SlotsLemmas.{none_conflicts}
+use Rattle.satl_line.proofs.NearLemmas.{none_conflicts}
 use Rattle.satl_line.proofs.set.TaskSet.mask_for.Goals as goal
 
 pub returns-then-among-eq0 : goal.returns-then-among-eq0

@@ -1,5 +1,6 @@
 use Rattle.std.proofs.Common.{ap, arith, length}
-use Rattle.satl_line.proofs.SlotsLemmas.{free_more, near_none, sound_new}
+use Rattle.satl_line.proofs.NearLemmas.{near_none}
+use Rattle.satl_line.proofs.SlotsLemmas.{free_more, sound_new}
 use Rattle.satl_line.proofs.set.TaskSet.new.Goals as goal
 
 pub loop-slot-preserved : goal.loop-slot-preserved

@@ -2,7 +2,8 @@ use Rattle.std.proofs.Common.{refl, ◌∙◌, ap, arith, length}
 use Rattle.std.proofs.lemmas.List.{length-map}
 use Rattle.satl_line.specs.Layout.{held_in, one_fewer}
 use Rattle.satl_line.proofs.PassedLemmas.{without_slot}
-use Rattle.satl_line.proofs.SlotsLemmas.{leaves, near_without, slot_gone}
+use Rattle.satl_line.proofs.NearLemmas.{near_without, slot_gone}
+use Rattle.satl_line.proofs.SlotsLemmas.{leaves}
 use Rattle.satl_line.proofs.set.TaskSet.remove.Goals as goal
 
 pub count_down-requires-clause-some : goal.count_down-requires-clause-some
