@@ -139,7 +139,7 @@ pub data DoesInPart (event : Frame) (s : Device) (answers : List Answer) (new : 
 
 -- a run, and one event more, which was carried out or cut short behind one of its turns (profile)
 pub data RunInPart (first : Device) : List Frame → List (List Answer) → ℕ → Device → Type 0 where
-  one_more : {events : List Frame} {groups : List (List Answer)} {losses deep : ℕ} {s new : Device} (event : Frame)
+  one_event_more : {events : List Frame} {groups : List (List Answer)} {losses deep : ℕ} {s new : Device} (event : Frame)
       (now : List Answer)
       → RunDeep first events groups losses s deep → DoesInPart event s now new
       → RunInPart first (events ++ event ∷ []) (groups ++ now ∷ []) (losses + losses_in event s new) new

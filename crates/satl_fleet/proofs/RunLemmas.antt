@@ -13,7 +13,7 @@ use Rattle.satl_direct.specs.Run.RunDeep.{start, next_event}
 use Rattle.satl_direct.proofs.Quieting.{quiet_none}
 use Rattle.satl_step.specs.Events.{unplugs_behind}
 use Rattle.satl_step.specs.Runs.{KeepsDeepest, tally_of, unplugs_in}
-use Rattle.satl_direct.specs.Run.RunInPart.{one_more}
+use Rattle.satl_direct.specs.Run.RunInPart.{one_event_more}
 use Rattle.satl_step.proofs.RunLemmas.{Unplugs, unplugs_one, unplugs_pushed}
 use Rattle.satl_fleet.specs.Output.{NoAnswersBehind, Round, frames_of, group_of, groups_for}
 use Rattle.satl_fleet.specs.Rounds.{EachDid, Stops, round_of, silence}
@@ -52,7 +52,7 @@ module _ (first : UnitStand) (events : List Frame) (groups : List (List Answer))
   ran_in_part : DidInPart event s answers new → UnitRanInPart first (events ++ event ∷ []) (groups ++ answers ∷ []) (unit_stand_of new)
   ran_in_part did = record {
     losses = r.losses + losses_in event (device_of s) (device_of new);
-    run = one_more event answers r.run did.does;
+    run = one_event_more event answers r.run did.does;
     counted = counted_more events r.losses (losses_in event (device_of s) (device_of new)) first.drive s.drive new.drive event r.counted did.faults did.unplugs did.queue;
   }
 

@@ -15,7 +15,7 @@ use Rattle.satl_line.specs.Outlines.{IsOutline, is_active, may_meet, no_outline,
 use Rattle.satl_line.specs.Conflict.{access_of, conflicts}
 use Rattle.satl_line.specs.Tasks.{Held, count_of}
 use Rattle.satl_line.specs.Layout.{mark_of, IsMask, held_in, tasks_in, AreNoted, IsNoted, SetInMemory, FitTogether}
-use Rattle.satl_line.specs.Regions.{AreApart, AreNear, IsNear, LeavesOut, MayLeaveOut}
+use Rattle.satl_line.specs.Regions.{OutlinesApart, AreNear, IsNear, HasAllNear, MayLeaveOut}
 use Rattle.satl_line.proofs.OutlinesLemmas.{EachIs, apart_where_quiet, told_by_outlines}
 use Rattle.satl_line.proofs.MasksLemmas.{bit, bit_is_zero, is_struck, unmarked}
 use Rattle.satl_line.proofs.RegionsLemmas.{all_removed}
@@ -39,7 +39,7 @@ none_conflicts tasks e among left_out none =
     unstruck (t ∷ ts) all = or_from (conflicts t.entry e) (is_struck (map mark_of ts) (access_of e)) (all.0 (ap (λ n. bit_at n t.slot) none ∙ bit_at-zero t.slot)) (unstruck ts all.1)
 
 -- the outlines of tasks that lie apart say that these do not conflict
-apart_by_outlines : (a b : Entry) (o p : Outline) → IsOutline a o → IsOutline b p → AreApart o p → conflicts a b ≡ false
+apart_by_outlines : (a b : Entry) (o p : Outline) → IsOutline a o → IsOutline b p → OutlinesApart o p → conflicts a b ≡ false
 apart_by_outlines a b o p is is' apart =
     sym (told_by_outlines a b o p is is')
     ∙ ap (λ x. x || (may_meet o p && conflicts a b)) apart.alone
@@ -52,7 +52,7 @@ apart_by_outlines a b o p is is' apart =
 
 -- the tasks that lie apart from one that comes, and where it neither writes nor stands alone, all others that do neither
 pub are_left_out : (slots : List Entry) (outlines : List Outline) (order free : List ℕ) (active : ℕ) (regions : Regions) (e : Entry) (o : Outline) (beside among : ℕ) → EachIs slots outlines order → AreNoted outlines order free active → AreNear regions outlines order → AllByRecursion (λ q. q < 64) order →
-    IsOutline e o → LeavesOut regions o beside → (among ≡ beside) ⊎ ((is_active o ≡ false) × (among ≡ bit_and beside active)) → AllByRecursion (MayLeaveOut e among) (tasks_in slots order)
+    IsOutline e o → HasAllNear regions o beside → (among ≡ beside) ⊎ ((is_active o ≡ false) × (among ≡ bit_and beside active)) → AllByRecursion (MayLeaveOut e among) (tasks_in slots order)
 are_left_out slots outlines order free active regions e o beside among each noted near small own leaves how =
     all order each noted.held near.each small
   where

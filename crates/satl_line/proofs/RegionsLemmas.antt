@@ -11,7 +11,7 @@ use Rattle.satl_line.specs.declared.outline.Outline.{Outline}
 use Rattle.satl_line.specs.declared.regions.Regions.{Regions}
 use Rattle.satl_line.specs.Layout.{clear_bit, with_slot}
 use Rattle.satl_line.specs.Outlines.{spans_meet}
-use Rattle.satl_line.specs.Regions.{AreApart, IsIn, IsNear, LeavesOut, is_broad, region_of, stretch_of, with_mark, without_mark}
+use Rattle.satl_line.specs.Regions.{OutlinesApart, HasMark, IsNear, HasAllNear, is_broad, region_of, stretch_of, with_mark, without_mark}
 
 -- ---- bits
 
@@ -36,22 +36,22 @@ module _ (near : List ℕ) (block new : ℕ) (room : length near ≡ 256) where
   put_here b e = ap (λ r. get_or put r 0) (eqb-true (region_of b) (region_of block) e) ∙ get_or-set_same near (region_of block) new 0 (omega (arith, room, region_small block))
 
   -- a slot is still in a region, where it is in the one that is put as it was in the one that stood there
-  still_in : (b q : ℕ) → (bit_at (get_or near (region_of block) 0) q ≡ 1 → bit_at new q ≡ 1) → IsIn near b q → IsIn put b q
+  still_in : (b q : ℕ) → (bit_at (get_or near (region_of block) 0) q ≡ 1 → bit_at new q ≡ 1) → HasMark near b q → HasMark put b q
   still_in b q same is =
-      (elim (region_of b == region_of block) as (λ x. (region_of b == region_of block) ≡ x → IsIn put b q) [
+      (elim (region_of b == region_of block) as (λ x. (region_of b == region_of block) ≡ x → HasMark put b q) [
         | true ↦ λ e. ap (λ n. bit_at n q) (put_here b e) ∙ same (ap (λ r. bit_at (get_or near r 0) q) (sym (eqb-true (region_of b) (region_of block) e)) ∙ is)
         | false ↦ λ e. ap (λ n. bit_at n q) (get_or-set_other near (region_of block) (region_of b) new 0 (eqb-false (region_of b) (region_of block) e)) ∙ is
       ]) refl
 
-pub in_marked : (near : List ℕ) (block s : ℕ) → length near ≡ 256 → s < 64 → IsIn (with_mark near block s) block s
+pub in_marked : (near : List ℕ) (block s : ℕ) → length near ≡ 256 → s < 64 → HasMark (with_mark near block s) block s
 in_marked near block s room small =
     ap (λ n. bit_at n s) (get_or-set_same near (region_of block) (with_slot true s (get_or near (region_of block) 0)) 0 (omega (arith, room, region_small block)))
     ∙ bit_at_set_same w64 (get_or near (region_of block) 0) s small
 
-pub marked_keeps : (near : List ℕ) (block s b q : ℕ) → length near ≡ 256 → s < 64 → IsIn near b q → IsIn (with_mark near block s) b q
+pub marked_keeps : (near : List ℕ) (block s b q : ℕ) → length near ≡ 256 → s < 64 → HasMark near b q → HasMark (with_mark near block s) b q
 marked_keeps near block s b q room small = still_in near block (with_slot true s (get_or near (region_of block) 0)) room b q (stays_set (get_or near (region_of block) 0) s q small)
 
-pub unmarked_keeps : (near : List ℕ) (block s b q : ℕ) → length near ≡ 256 → s < 64 → q < 64 → (q == s) ≡ false → IsIn near b q → IsIn (without_mark near block s) b q
+pub unmarked_keeps : (near : List ℕ) (block s b q : ℕ) → length near ≡ 256 → s < 64 → q < 64 → (q == s) ≡ false → HasMark near b q → HasMark (without_mark near block s) b q
 unmarked_keeps near block s b q room small low other =
     still_in near block (clear_bit s (get_or near (region_of block) 0)) room b q
     (λ one. bit_at_clear_other w64 (get_or near (region_of block) 0) s small q low (eqb-false q s other) ∙ one)
@@ -63,7 +63,7 @@ either true f g h = f h
 either false f g h = g h
 
 -- a task that was near still is, where its slot is where it was
-near_still : (old new : Regions) (q : ℕ) (o : Outline) → (bit_at old.broad q ≡ 1 → bit_at new.broad q ≡ 1) → ((b : ℕ) → IsIn old.near b q → IsIn new.near b q) → IsNear old q o → IsNear new q o
+near_still : (old new : Regions) (q : ℕ) (o : Outline) → (bit_at old.broad q ≡ 1 → bit_at new.broad q ≡ 1) → ((b : ℕ) → HasMark old.near b q → HasMark new.near b q) → IsNear old q o → IsNear new q o
 near_still old new q o still stays = either (is_broad o) still (λ both. (stays o.span.first both.0, stays o.span.last both.1))
 
 -- two spans of two stretches each that meet have a stretch in common
@@ -93,14 +93,14 @@ module _ (old : Regions) (s : ℕ) (o : Outline) (small : s < 64) (room : length
     pub two_noted : is_broad o ≡ false → IsNear (record old { near = near' }) s o
     two_noted e =
         rw e (
-          subst (λ l. IsIn l o.span.first s) (sym near'_is) (marked_keeps near o.span.last s o.span.first s room_still small (subst (λ l. IsIn l o.span.first s) (sym near_is) (in_marked old.near o.span.first s room small))),
-          subst (λ l. IsIn l o.span.last s) (sym near'_is) (in_marked near o.span.last s room_still small),
+          subst (λ l. HasMark l o.span.first s) (sym near'_is) (marked_keeps near o.span.last s o.span.first s room_still small (subst (λ l. HasMark l o.span.first s) (sym near_is) (in_marked old.near o.span.first s room small))),
+          subst (λ l. HasMark l o.span.last s) (sym near'_is) (in_marked near o.span.last s room_still small),
         )
 
     pub two_others : (other : ℕ) (p : Outline) → IsNear old other p → IsNear (record old { near = near' }) other p
     two_others other p =
         near_still old (record old { near = near' }) other p (λ is. is)
-        (λ b is. subst (λ l. IsIn l b other) (sym near'_is) (marked_keeps near o.span.last s b other room_still small (subst (λ l. IsIn l b other) (sym near_is) (marked_keeps old.near o.span.first s b other room small is))))
+        (λ b is. subst (λ l. HasMark l b other) (sym near'_is) (marked_keeps near o.span.last s b other room_still small (subst (λ l. HasMark l b other) (sym near_is) (marked_keeps old.near o.span.first s b other room small is))))
 
 -- a task is forgotten, and those in other slots stay noted
 pub forgotten_others : (old : Regions) (s first last : ℕ) (near near' : List ℕ) → s < 64 → length old.near ≡ 256 → near ≡ without_mark old.near first s → near' ≡ without_mark near last s → (other : ℕ) (p : Outline) → other < 64 → (other == s) ≡ false → IsNear old other p → IsNear (record { near = near'; broad = clear_bit s old.broad }) other p
@@ -108,17 +108,17 @@ forgotten_others old s first last near near' small room near_is near'_is other p
     let room_still : length near ≡ 256 = ap length near_is ∙ length-set old.near (region_of first) _ ∙ room in
     near_still old (record { near = near'; broad = clear_bit s old.broad }) other p
     (λ one. bit_at_clear_other w64 old.broad s small other low (eqb-false other s apart) ∙ one)
-    (λ b is. subst (λ l. IsIn l b other) (sym near'_is) (unmarked_keeps near last s b other room_still small low apart (subst (λ l. IsIn l b other) (sym near_is) (unmarked_keeps old.near first s b other room small low apart is))))
+    (λ b is. subst (λ l. HasMark l b other) (sym near'_is) (unmarked_keeps near last s b other room_still small low apart (subst (λ l. HasMark l b other) (sym near_is) (unmarked_keeps old.near first s b other room small low apart is))))
 
 -- ---- the slots beside a task
 
 -- both bounds of a span of at most two stretches
 module _ (near : List ℕ) (q : ℕ) (p : Outline) (none : bit_at (get_or near (region_of p.span.first) 0) q ≡ 0) (none' : bit_at (get_or near (region_of p.span.last) 0) q ≡ 0) where
   -- a block whose stretch has one of the bounds is in no region with the slot
-  not_in : (b c : ℕ) → bit_at (get_or near (region_of c) 0) q ≡ 0 → stretch_of b ≡ stretch_of c → IsIn near b q → ◌≡◌ {A = ℕ} 0 1
+  not_in : (b c : ℕ) → bit_at (get_or near (region_of c) 0) q ≡ 0 → stretch_of b ≡ stretch_of c → HasMark near b q → ◌≡◌ {A = ℕ} 0 1
   not_in b c zero_there same is = sym zero_there ∙ ap (λ n. bit_at (get_or near (n % 256) 0) q) (sym same) ∙ is
 
-  pub spans_apart : (o : Outline) → nat_lt (stretch_of o.span.first + 1) (stretch_of o.span.last) ≡ false → nat_lt (stretch_of p.span.first + 1) (stretch_of p.span.last) ≡ false → IsIn near o.span.first q → IsIn near o.span.last q → spans_meet o.span p.span ≡ false
+  pub spans_apart : (o : Outline) → nat_lt (stretch_of o.span.first + 1) (stretch_of o.span.last) ≡ false → nat_lt (stretch_of p.span.first + 1) (stretch_of p.span.last) ≡ false → HasMark near o.span.first q → HasMark near o.span.last q → spans_meet o.span p.span ≡ false
   spans_apart o short short' is is' =
       false_from_ne_true (spans_meet o.span p.span) (λ meet.
       let both = meeting (nat_lt p.span.last o.span.first) (nat_lt o.span.last p.span.first) meet in
@@ -136,19 +136,19 @@ module _ (near : List ℕ) (q : ℕ) (p : Outline) (none : bit_at (get_or near (
       meeting true b h = absurd cc
 
 -- all slots are beside a broad task
-pub all_beside : (regions : Regions) (p : Outline) → LeavesOut regions p (2 ^ 64 - 1)
+pub all_beside : (regions : Regions) (p : Outline) → HasAllNear regions p (2 ^ 64 - 1)
 all_beside regions p = λ slot other lt near none. absurd (omega (arith, none, bit_at_ones 64 slot lt))
 
 -- else those that are near
-pub near_beside : (regions : Regions) (p : Outline) (among : ℕ) → is_broad p ≡ false → among ≡ bit_or (bit_or regions.broad (get_or regions.near (region_of p.span.first) 0)) (get_or regions.near (region_of p.span.last) 0) → LeavesOut regions p among
+pub near_beside : (regions : Regions) (p : Outline) (among : ℕ) → is_broad p ≡ false → among ≡ bit_or (bit_or regions.broad (get_or regions.near (region_of p.span.first) 0)) (get_or regions.near (region_of p.span.last) 0) → HasAllNear regions p among
 near_beside regions p among narrow is = λ slot other lt near none.
     let bits = bit_at_or (bit_or regions.broad (get_or regions.near (region_of p.span.first) 0)) (get_or regions.near (region_of p.span.last) 0) slot in
     let bits' = bit_at_or regions.broad (get_or regions.near (region_of p.span.first) 0) slot in
     let zero_bit = ap (λ n. bit_at n slot) (sym is) ∙ none in
     by other slot (is_broad other) refl near (omega (arith, bits, bits', zero_bit)) (omega (arith, bits, bits', zero_bit)) (omega (arith, bits, bits', zero_bit))
   where
-    by : (o : Outline) (q : ℕ) (b : Bool) → is_broad o ≡ b → MatchBool b (bit_at regions.broad q ≡ 1) (IsIn regions.near o.span.first q × IsIn regions.near o.span.last q) →
-        bit_at regions.broad q ≡ 0 → bit_at (get_or regions.near (region_of p.span.first) 0) q ≡ 0 → bit_at (get_or regions.near (region_of p.span.last) 0) q ≡ 0 → AreApart o p
+    by : (o : Outline) (q : ℕ) (b : Bool) → is_broad o ≡ b → MatchBool b (bit_at regions.broad q ≡ 1) (HasMark regions.near o.span.first q × HasMark regions.near o.span.last q) →
+        bit_at regions.broad q ≡ 0 → bit_at (get_or regions.near (region_of p.span.first) 0) q ≡ 0 → bit_at (get_or regions.near (region_of p.span.last) 0) q ≡ 0 → OutlinesApart o p
     by o q true e one none none' none'' = absurd (omega (arith, one, none))
     by o q false e both none none' none'' =
         let own = or_parts o.alone _ e in

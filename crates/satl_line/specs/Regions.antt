@@ -27,8 +27,8 @@ abbrev pub without_mark : List ℕ → ℕ → ℕ → List ℕ
 without_mark near block slot = slice_set near (region_of block) (clear_bit slot (slice_index near (region_of block)))
 
 -- the region of a block has this slot
-abbrev pub IsIn : List ℕ → ℕ → ℕ → Type 0
-IsIn near block slot = bit_at (slice_index near (region_of block)) slot ≡ 1
+abbrev pub HasMark : List ℕ → ℕ → ℕ → Type 0
+HasMark near block slot = bit_at (slice_index near (region_of block)) slot ≡ 1
 
 -- whether the task is broad: it stands alone, or its span goes on behind the stretch after the one in which it begins
 abbrev pub is_broad : Outline → Bool
@@ -39,17 +39,17 @@ is_broad outline = outline.alone || nat_lt (stretch_of outline.span.first + 1) (
 abbrev pub IsNear : Regions → ℕ → Outline → Type 0
 IsNear regions slot outline =
     MatchBool (is_broad outline) (bit_at regions.broad slot ≡ 1)
-    (IsIn regions.near outline.span.first slot × IsIn regions.near outline.span.last slot)
+    (HasMark regions.near outline.span.first slot × HasMark regions.near outline.span.last slot)
 
 -- neither task stands alone, and no block lies in both spans
-pub record AreApart (a b : Outline) : Type 0 where
+pub record OutlinesApart (a b : Outline) : Type 0 where
   pub alone : (a.alone || b.alone) ≡ false
   pub spans : spans_meet a.span b.span ≡ false
 
 -- a slot that is noted and not among these has a task that lies apart from this one
-abbrev pub LeavesOut : Regions → Outline → ℕ → Type 0
-LeavesOut regions outline among =
-    (slot : ℕ) (other : Outline) → slot < 64 → IsNear regions slot other → bit_at among slot ≡ 0 → AreApart other outline
+abbrev pub HasAllNear : Regions → Outline → ℕ → Type 0
+HasAllNear regions outline among =
+    (slot : ℕ) (other : Outline) → slot < 64 → IsNear regions slot other → bit_at among slot ≡ 0 → OutlinesApart other outline
 
 -- a task whose slot is not among these does not conflict with this one
 abbrev pub MayLeaveOut : Entry → ℕ → Held → Type 0

@@ -1,7 +1,7 @@
 // Which slots have a task near which blocks: so a task that comes is held against few of those that wait.
 ghost use Rattle.std.specs.Prelude.{◌≡◌, ◌<◌, ◌==◌, ℕ, false, length, slice_index};
 ghost use Rattle.satl_line.specs.declared.outline.Outline.{Outline};
-ghost use Rattle.satl_line.specs.Regions.{IsNear, LeavesOut, is_broad, region_of, with_mark, without_mark};
+ghost use Rattle.satl_line.specs.Regions.{IsNear, HasAllNear, is_broad, region_of, with_mark, without_mark};
 
 use crate::outline::Outline;
 
@@ -63,7 +63,7 @@ impl Regions {
     /// task that lies apart from it.
     pub fn beside(&self, outline: &Outline) -> u64
         requires { length self.now.near ≡ 256 }
-        ensures { LeavesOut self.now outline.now result }
+        ensures { HasAllNear self.now outline.now result }
     {
         if is_broad(outline) {
             u64::MAX

@@ -15,7 +15,7 @@ use Rattle.satl_direct.proofs.Quieting.{quiet_none}
 use Rattle.satl_step.specs.Events.{Carried, IsTallied, IsWholeOf, unplugs_behind}
 use Rattle.satl_step.specs.Runs.{AreCounted, KeepsDeepest, RunCutSoFar, RunSoFar, Stand, is_manage, is_request, is_unplug, unplugs_in}
 use Rattle.satl_direct.specs.Run.DoesInPart.{does_all, does_some}
-use Rattle.satl_direct.specs.Run.RunInPart.{one_more}
+use Rattle.satl_direct.specs.Run.RunInPart.{one_event_more}
 
 -- ---- what an event counts of a whole one
 
@@ -113,6 +113,6 @@ in_part event whole a b given is (inr short) = does_some (short_whole is.room ev
 pub run_cut : (before a b : Stand) (events : List Frame) (groups : List (List Answer)) (event whole : Frame) (given : List Answer) → RunSoFar before a events groups → IsWholeOf event whole → Carried event a given b ⊎ DoesShort event a.device given b.device → IsTallied event a b → RunCutSoFar before b (events ++ whole ∷ []) (groups ++ given ∷ [])
 run_cut before a b events groups event whole given r is done tallied = record {
   losses = r.losses + losses_in whole a.device b.device;
-  run = one_more whole given r.run (in_part event whole a b given is done);
+  run = one_event_more whole given r.run (in_part event whole a b given is done);
   counted = counted_more events r.losses before a b event whole r.counted is tallied;
 }
