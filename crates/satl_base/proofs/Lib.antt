@@ -8,3 +8,4 @@ pub mod LossesLemmas
 pub mod MovesLemmas
 pub mod OutcomeLemmas
 pub mod PlacesLemmas
+mod SequenceLemmas

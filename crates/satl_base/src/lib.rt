@@ -13,6 +13,7 @@ mod modes;
 mod pages;
 mod reply;
 mod request;
+mod sequence;
 mod steps;
 
 pub use bench::{BenchEvent, OrderBytes, Which};
@@ -27,6 +28,7 @@ pub use modes::{ModeChange, Modes};
 pub use pages::{Blocks, NoMemory, Page, Pages, Pieces};
 pub use reply::{Replies, Reply, Response, Scsi, SenseBytes};
 pub use request::{Attr, Manage, Nexus, Request, Tag};
+pub use sequence::Sequence;
 pub use steps::Steps;
 
 #[cfg(test)]

@@ -1,4 +1,4 @@
-use crate::{Block, Nexus, Page, Pages, Range, Replies, Reply, Scsi, SenseBytes, Tag};
+use crate::{Block, Nexus, Page, Pages, Range, Replies, Reply, Scsi, SenseBytes, Sequence, Tag};
 use std::alloc::Global;
 use std::test::Fail;
 
@@ -59,4 +59,22 @@ fn the_last_block_is_inside(rt: HostRuntime) {
         count: 1,
     };
     assert!(rt; last.goes_past(8));
+}
+
+#[test]
+fn items_leave_and_come_past_the_room(rt: HostRuntime) {
+    let mut line: Sequence<u8, 3> = Sequence::new();
+    assert!(rt; line.is_empty());
+    line.push(1);
+    line.push(2);
+    line.push(3);
+    assert_eq!(rt; line.remove(0), 1);
+    line.push(4);
+    assert_eq!(rt; line.at(2), 4);
+    assert_eq!(rt; line.remove(1), 3);
+    line.push(5);
+    assert_eq!(rt; line.len(), 3);
+    assert_eq!(rt; line.as_slice(), [2, 4, 5].as_slice());
+    line.clear();
+    assert!(rt; line.is_empty());
 }
