@@ -4,6 +4,7 @@ pub mod OutlinesLemmas
 pub mod PassedLemmas
 pub mod RegionsLemmas
 pub mod SlotsLemmas
+pub mod AmongLemmas
 pub mod NearLemmas
 pub mod EligibleLemmas
 pub mod EndingLemmas

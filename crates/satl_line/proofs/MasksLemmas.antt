@@ -8,7 +8,7 @@ use Rattle.std.proofs.Math.ListN.{get_or-map}
 use Rattle.std.proofs.lemmas.Bool.{eq-eqb, eqb-true, eqb-false, false_from_ne_true, or_from, and_right, or_parts}
 use Rattle.std.proofs.lemmas.List.{get_or-set_same, get_or-set_other, append-nil}
 use Rattle.std.proofs.lemmas.List.Elements.{All-map, All-replicate, All-set, All-weaker}
-use Rattle.std.proofs.lemmas.List.Folds.{list_any-append, map_fixed}
+use Rattle.std.proofs.lemmas.List.Folds.{map_fixed}
 use Rattle.std.proofs.lemmas.Nat.{and_le_l}
 use Rattle.std.proofs.lemmas.Nat.Bits.{bit_at_set_same, bit_at_set_other, bit_at_clear_same, bit_at_clear_other, bit_at_or, same_from_bits_below, bit_at-zero}
 use Rattle.satl_line.specs.Conflict.{Access, accesses_conflict}
@@ -16,41 +16,6 @@ use Rattle.satl_line.specs.Layout.{SlotAccess, is_marked, IsMask, HaveMasks, Has
 
 abbrev pub bit : Bool → ℕ
 bit b = if b then 1 else 0
-
-or_none : (a c d : Bool) → d ≡ false → (a || ((c && d) || false)) ≡ a
-or_none true c d h = refl
-or_none false true d h = rw h refl
-or_none false false d h = refl
-
-or_other : (a c d : Bool) → c ≡ false → (a || ((c && d) || false)) ≡ a
-or_other true c d h = refl
-or_other false true d h = absurd cc
-or_other false false d h = refl
-
-or_here : (a c d : Bool) → c ≡ true → d ≡ true → (a || ((c && d) || false)) ≡ true
-or_here true c d h k = refl
-or_here false true true h k = refl
-or_here false true false h k = absurd cc
-or_here false false d h k = absurd cc
-
--- one more mark
-pub marked-append : (earlier : List SlotAccess) (m : SlotAccess) (s : Access) (q : ℕ) → is_marked (earlier ++ m ∷ []) s q ≡ (is_marked earlier s q || (((m.slot == q) && accesses_conflict m.access s) || false))
-marked-append earlier m s q = list_any-append (λ u. (u.slot == q) && accesses_conflict u.access s) earlier (m ∷ [])
-
--- a task that does not conflict leaves the mask
-pub mask_more_no : (earlier : List SlotAccess) (m : SlotAccess) (s : Access) (mask : ℕ) → IsMask earlier s mask → accesses_conflict m.access s ≡ false → IsMask (earlier ++ m ∷ []) s mask
-mask_more_no earlier m s mask h apart =
-    λ q lt. h q lt ∙ ap bit (sym (marked-append earlier m s q ∙ or_none (is_marked earlier s q) (m.slot == q) (accesses_conflict m.access s) apart))
-
--- and one that does sets its bit
-pub mask_more_yes : (earlier : List SlotAccess) (m : SlotAccess) (s : Access) (mask : ℕ) → IsMask earlier s mask → m.slot < 64 → accesses_conflict m.access s ≡ true → IsMask (earlier ++ m ∷ []) s (bit_or mask (1 * 2 ^ m.slot % 2 ^ 64))
-mask_more_yes earlier m s mask h small struck =
-    λ q lt. (elim (m.slot == q) as (λ b. (m.slot == q) ≡ b → bit_at (bit_or mask (1 * 2 ^ m.slot % 2 ^ 64)) q ≡ bit (is_marked (earlier ++ m ∷ []) s q)) [
-      | true ↦ λ e. subst (λ r. bit_at (bit_or mask (1 * 2 ^ m.slot % 2 ^ 64)) r ≡ bit (is_marked (earlier ++ m ∷ []) s q)) (eqb-true m.slot q e)
-          (bit_at_set_same w64 mask m.slot small ∙ ap bit (sym (marked-append earlier m s q ∙ or_here (is_marked earlier s q) (m.slot == q) (accesses_conflict m.access s) e struck)))
-      | false ↦ λ e. bit_at_set_other w64 mask m.slot small q (λ same. eqb-false m.slot q e (sym same)) ∙ h q lt
-          ∙ ap bit (sym (marked-append earlier m s q ∙ or_other (is_marked earlier s q) (m.slot == q) (accesses_conflict m.access s) e))
-    ]) refl
 
 -- no task lies in this slot
 abbrev pub HasNot : ℕ → List SlotAccess → Type 0

@@ -1,42 +1,28 @@
 -- The tasks near one that comes: which are left out, and what is noted as tasks come and go.
-use Rattle.std.proofs.Common.{◌≡◌, refl, sym, ◌∙◌, ap, subst, ℕ, zero, suc, ◌+◌, ◌<◌, Bool, true, false, List, [], ◌∷◌, ◌++◌, map, length, get_or, set, arith, ◌⊎◌, ⊎_elim, inl, inr, bit_and}
+use Rattle.std.proofs.Common.{◌≡◌, refl, sym, ◌∙◌, ap, subst, ℕ, zero, suc, ◌+◌, ◌<◌, Bool, true, false, List, [], ◌∷◌, ◌++◌, length, get_or, set, arith, ◌⊎◌, ⊎_elim, inl, inr, bit_and}
 use Rattle.std.specs.Prelude.{min, ◌==◌, ◌||◌, ◌&&◌}
 use Rattle.std.specs.List.{AllByRecursion, remove}
 use Rattle.std.specs.Int.{bit_at}
-use Rattle.std.proofs.lemmas.Nat.Bits.{bit_at_and, bit_at-zero}
+use Rattle.std.proofs.lemmas.Nat.Bits.{bit_at_and}
 use Rattle.satl_base.proofs.ListsLemmas.{All-both}
-use Rattle.std.proofs.lemmas.Bool.{eqb-false, or_from}
+use Rattle.std.proofs.lemmas.Bool.{eqb-false}
 use Rattle.std.proofs.lemmas.List.{get_or-set_same, get_or-set_other}
 use Rattle.satl_line.specs.declared.entry.Entry.{Entry}
 use Rattle.satl_line.specs.declared.outline.Outline.{Outline}
 use Rattle.satl_line.specs.declared.regions.Regions.{Regions}
 use Rattle.satl_line.specs.Blank.{no_entry}
 use Rattle.satl_line.specs.Outlines.{IsOutline, is_active, may_meet, no_outline, outline_in}
-use Rattle.satl_line.specs.Conflict.{access_of, conflicts}
-use Rattle.satl_line.specs.Tasks.{Held, count_of}
-use Rattle.satl_line.specs.Layout.{mark_of, IsMask, held_in, tasks_in, AreNoted, IsNoted, SetInMemory, FitTogether}
+use Rattle.satl_line.specs.Conflict.{conflicts}
+use Rattle.satl_line.specs.Tasks.{count_of}
+use Rattle.satl_line.specs.Layout.{IsTakenMask, held_in, tasks_in, AreNoted, IsNoted, SetInMemory, FitTogether}
 use Rattle.satl_line.specs.Regions.{OutlinesApart, AreNear, IsNear, HasAllNear, MayLeaveOut}
 use Rattle.satl_line.proofs.OutlinesLemmas.{EachIs, apart_where_quiet, told_by_outlines}
-use Rattle.satl_line.proofs.MasksLemmas.{bit, bit_is_zero, is_struck, unmarked}
+use Rattle.satl_line.proofs.MasksLemmas.{bit_is_zero}
 use Rattle.satl_line.proofs.RegionsLemmas.{all_removed}
+use Rattle.satl_line.proofs.AmongLemmas.{all_counted}
 use Rattle.satl_line.proofs.SlotsLemmas.{All-append, All-other, All-right, count-append, count_one}
 
 -- ---- the tasks that are left out
-
--- what holds of each task holds of the one at a place
-pub at_place : (P : Held → Type 0) (slots : List Entry) (order : List ℕ) (i : ℕ) → i < length order → AllByRecursion P (tasks_in slots order) → P (held_in slots (get_or order i 0))
-at_place P slots [] i h all = absurd (omega arith)
-at_place P slots (q ∷ qs) zero h all = all.0
-at_place P slots (q ∷ qs) (suc i) h all = at_place P slots qs i (omega arith) all.1
-
--- where all tasks are left out, none conflicts
-pub none_conflicts : (tasks : List Held) (e : Entry) (among : ℕ) → AllByRecursion (MayLeaveOut e among) tasks → among ≡ 0 → IsMask (map mark_of tasks) (access_of e) 0
-none_conflicts tasks e among left_out none =
-    λ q lt. bit_at-zero q ∙ ap bit (sym (unmarked (map mark_of tasks) (access_of e) (unstruck tasks left_out) q))
-  where
-    unstruck : (ts : List Held) → AllByRecursion (MayLeaveOut e among) ts → is_struck (map mark_of ts) (access_of e) ≡ false
-    unstruck [] all = refl
-    unstruck (t ∷ ts) all = or_from (conflicts t.entry e) (is_struck (map mark_of ts) (access_of e)) (all.0 (ap (λ n. bit_at n t.slot) none ∙ bit_at-zero t.slot)) (unstruck ts all.1)
 
 -- the outlines of tasks that lie apart say that these do not conflict
 apart_by_outlines : (a b : Entry) (o p : Outline) → IsOutline a o → IsOutline b p → OutlinesApart o p → conflicts a b ≡ false
@@ -51,14 +37,17 @@ apart_by_outlines a b o p is is' apart =
     never false y = refl
 
 -- the tasks that lie apart from one that comes, and where it neither writes nor stands alone, all others that do neither
-pub are_left_out : (slots : List Entry) (outlines : List Outline) (order free : List ℕ) (active : ℕ) (regions : Regions) (e : Entry) (o : Outline) (beside among : ℕ) → EachIs slots outlines order → AreNoted outlines order free active → AreNear regions outlines order → AllByRecursion (λ q. q < 64) order →
-    IsOutline e o → HasAllNear regions o beside → (among ≡ beside) ⊎ ((is_active o ≡ false) × (among ≡ bit_and beside active)) → AllByRecursion (MayLeaveOut e among) (tasks_in slots order)
-are_left_out slots outlines order free active regions e o beside among each noted near small own leaves how =
-    all order each noted.held near.each small
+pub are_left_out : (slots : List Entry) (outlines : List Outline) (order free : List ℕ) (taken active : ℕ) (regions : Regions) (e : Entry) (o : Outline) (beside among : ℕ) → EachIs slots outlines order → AreNoted outlines order free active → AreNear regions outlines order → IsTakenMask order taken → AllByRecursion (λ q. q < 64) order →
+    IsOutline e o → HasAllNear regions o beside → (among ≡ bit_and beside taken) ⊎ ((is_active o ≡ false) × (among ≡ bit_and beside active)) → AllByRecursion (MayLeaveOut e among) (tasks_in slots order)
+are_left_out slots outlines order free taken active regions e o beside among each noted near held small own leaves how =
+    all order each noted.held near.each small (all_counted order)
   where
-    here : (q : ℕ) → IsOutline (get_or slots q no_entry) (outline_in outlines q) → IsNoted outlines active q → IsNear regions q (outline_in outlines q) → q < 64 → MayLeaveOut e among (held_in slots q)
-    here q is noted near lt none = ⊎_elim
-        (λ whole. apart_by_outlines (get_or slots q no_entry) e (outline_in outlines q) o is own (leaves q (outline_in outlines q) lt near (ap (λ n. bit_at n q) (sym whole) ∙ none)))
+    here : (q : ℕ) → IsOutline (get_or slots q no_entry) (outline_in outlines q) → IsNoted outlines active q → IsNear regions q (outline_in outlines q) → q < 64 → 0 < count_of q order → MayLeaveOut e among (held_in slots q)
+    here q is noted near lt some none = ⊎_elim
+        (λ whole.
+        let both = bit_at_and beside taken q in
+        let zero_bit = ap (λ n. bit_at n q) (sym whole) ∙ none in
+        apart_by_outlines (get_or slots q no_entry) e (outline_in outlines q) o is own (leaves q (outline_in outlines q) lt near (omega (arith, both, zero_bit, held q lt, some))))
         (λ part.
         let both = bit_at_and beside active q in
         let zero_bit = ap (λ n. bit_at n q) (sym part.1) ∙ none in
@@ -73,9 +62,9 @@ are_left_out slots outlines order free active regions e o beside among each note
         one_is_zero (suc a) zero h = inr refl
         one_is_zero (suc a) (suc b) h = absurd (omega (arith, h))
 
-    all : (qs : List ℕ) → EachIs slots outlines qs → AllByRecursion (IsNoted outlines active) qs → AllByRecursion (λ q. IsNear regions q (outline_in outlines q)) qs → AllByRecursion (λ q. q < 64) qs → AllByRecursion (MayLeaveOut e among) (tasks_in slots qs)
-    all [] are noted near small = tt
-    all (q ∷ qs) are noted near small = (here q are.0 noted.0 near.0 small.0, all qs are.1 noted.1 near.1 small.1)
+    all : (qs : List ℕ) → EachIs slots outlines qs → AllByRecursion (IsNoted outlines active) qs → AllByRecursion (λ q. IsNear regions q (outline_in outlines q)) qs → AllByRecursion (λ q. q < 64) qs → AllByRecursion (λ q. 0 < count_of q order) qs → AllByRecursion (MayLeaveOut e among) (tasks_in slots qs)
+    all [] are noted near small some = tt
+    all (q ∷ qs) are noted near small some = (here q are.0 noted.0 near.0 small.0 some.0, all qs are.1 noted.1 near.1 small.1 some.1)
 
 -- ---- what is near, as tasks come and go
 

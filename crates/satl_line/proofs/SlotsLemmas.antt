@@ -12,21 +12,20 @@ use Rattle.satl_base.specs.declared.request.Tag.{Tag}
 use Rattle.satl_base.specs.Lists.{how_many, change_at}
 use Rattle.std.proofs.lemmas.List.Sums.{sum_by-append, sum_by-cons}
 use Rattle.std.proofs.Math.ListN.{length-set, get_or-map}
-use Rattle.std.proofs.Math.Seq.{take-suc}
 use Rattle.std.proofs.lemmas.Option.{slice_get-get_or, slice_get_past}
 use Rattle.std.proofs.lemmas.Bool.{eq-eqb, eqb-true, eqb-false, ltb-true, ltb-false, lt-ltb, le-ltb, and_right, ne_eqb}
-use Rattle.std.proofs.lemmas.List.{get_or-set_same, get_or-set_other, length-append, length-map, length-replicate, map-append, append-nil, get_or_default}
+use Rattle.std.proofs.lemmas.List.{get_or-set_same, get_or-set_other, length-append, length-map, length-replicate, map-append, append-nil, get_or_default, get_or_read_under}
 use Rattle.satl_line.specs.declared.entry.Entry.{Entry}
 use Rattle.satl_line.specs.declared.outline.Outline.{Outline}
 use Rattle.satl_line.specs.Blank.{no_entry}
 use Rattle.satl_line.specs.Outlines.{IsOutline, is_active, no_outline, outline_in}
-use Rattle.satl_line.specs.Conflict.{access_of, accesses_conflict, conflicts}
+use Rattle.satl_line.specs.Conflict.{access_of, conflicts}
 use Rattle.satl_line.specs.Eligible.{eligible_at, is_clear_by}
 use Rattle.satl_line.specs.Tasks.{AreOwnSlots, AreMasks, is_barred_from, entries_of, Held, count_of, slots_of, total_blocks, entry_at, Adds, with_body}
 use Rattle.satl_line.specs.Layout.{SlotAccess, mark_of, is_marked, IsMask, HaveMasks, IsMasked, clear_bit, cleared, held_in, tasks_in, AreNoted, IsNoted, HasNoOther, with_slot, CountLowBytes, has_low_byte, low_byte, one_fewer, one_more, SetInMemory, FitTogether, is_unbarred_at}
 use Rattle.satl_line.proofs.CountsLemmas.{counted_few, counted_more, counted_out}
 use Rattle.satl_line.proofs.OutlinesLemmas.{EachIs, outline_with}
-use Rattle.satl_line.proofs.MasksLemmas.{bit, with_slot_here, with_slot_other, HasNot, AreSmall, is_struck, zero_mask, are_removed, are_added, within_none, within_more, within_fewer, get_or-cleared, mask_more_yes, mask_more_no}
+use Rattle.satl_line.proofs.MasksLemmas.{bit, with_slot_here, with_slot_other, HasNot, AreSmall, is_struck, zero_mask, are_removed, are_added, within_none, within_more, within_fewer, get_or-cleared}
 
 -- ---- counts
 
@@ -37,7 +36,7 @@ count-append q (x ∷ xs) ys = omega (arith, count-append q xs ys)
 pub count_one : (q : ℕ) → count_of q (q ∷ []) ≡ 1
 count_one q = rw (eq-eqb q q refl) (omega arith)
 
-count_of-first : (q : ℕ) (qs : List ℕ) → count_of q (q ∷ qs) ≡ 1 + count_of q qs
+pub count_of-first : (q : ℕ) (qs : List ℕ) → count_of q (q ∷ qs) ≡ 1 + count_of q qs
 count_of-first q qs = rw (eq-eqb q q refl) (omega arith)
 
 pub count_other : (q s : ℕ) → (q == s) ≡ false → count_of q (s ∷ []) ≡ 0
@@ -421,27 +420,6 @@ comes_from layout freed s active' mask e read put o old order' tag_counts' own s
 pub counts_few : (layout : SetInMemory) (tag : Tag) → FitTogether layout → get_or layout.tag_counts (low_byte tag) 0 ≤ 64
 counts_few layout tag h = omega (arith, counted_few (tasks_in layout.slots layout.order) layout.tag_counts tag h.counted, length-map layout.order (held_in layout.slots), h.count)
 
--- one more slot is looked at
-module _ (slots : List Entry) (order : List ℕ) (i : ℕ) (u e : Entry) (mask new : ℕ) (within : i < length order) (is : u ≡ get_or slots (get_or order i 0) no_entry) (so_far : IsMask (map mark_of (tasks_in slots (take i order))) (access_of e) mask) where
-  marks_more : map mark_of (tasks_in slots (take (i + 1) order)) ≡ map mark_of (tasks_in slots (take i order)) ++ mark_of (held_in slots (get_or order i 0)) ∷ []
-  marks_more =
-      ap (λ l. map mark_of (tasks_in slots l)) (ap (λ k. take k order) (add-one i) ∙ take-suc order i 0 within)
-      ∙ ap (map mark_of) (map-append (held_in slots) (take i order) (get_or order i 0 ∷ []))
-      ∙ map-append mark_of (tasks_in slots (take i order)) (held_in slots (get_or order i 0) ∷ [])
-
-  clashes : accesses_conflict (mark_of (held_in slots (get_or order i 0))).access (access_of e) ≡ conflicts u e
-  clashes = ap (λ o. accesses_conflict (access_of o) (access_of e)) (sym is)
-
-  pub mask_step_yes : get_or order i 0 < 64 → conflicts u e ≡ true → new ≡ bit_or mask (1 * 2 ^ get_or order i 0 % 2 ^ 64) → IsMask (map mark_of (tasks_in slots (take (i + 1) order))) (access_of e) new
-  mask_step_yes small struck new_is =
-      subst (λ l. IsMask l (access_of e) new) (sym marks_more) (subst (λ v. IsMask (map mark_of (tasks_in slots (take i order)) ++ mark_of (held_in slots (get_or order i 0)) ∷ []) (access_of e) v) (sym new_is)
-      (mask_more_yes (map mark_of (tasks_in slots (take i order))) (mark_of (held_in slots (get_or order i 0))) (access_of e) mask so_far small (clashes ∙ struck)))
-
-  pub mask_step_no : conflicts u e ≡ false → new ≡ mask → IsMask (map mark_of (tasks_in slots (take (i + 1) order))) (access_of e) new
-  mask_step_no apart new_is =
-      subst (λ l. IsMask l (access_of e) new) (sym marks_more) (subst (λ v. IsMask (map mark_of (tasks_in slots (take i order)) ++ mark_of (held_in slots (get_or order i 0)) ∷ []) (access_of e) v) (sym new_is)
-      (mask_more_no (map mark_of (tasks_in slots (take i order))) (mark_of (held_in slots (get_or order i 0))) (access_of e) mask so_far (clashes ∙ apart)))
-
 -- the masks that were walked are changed, and the others are not
 pub walk_step : {X : Type 0} (f : X → X) (xs init : List X) (i : ℕ) (d : X) → xs ≡ map f (take i init) ++ drop i init → i < length init → set xs i (f (get_or xs i d)) ≡ map f (take (i + 1) init) ++ drop (i + 1) init
 walk_step f xs init i d is lt =
@@ -623,14 +601,21 @@ module _ (slots : List Entry) (s : ℕ) (body : List Block) (within : s < length
       apart : (q n : ℕ) → (if q == s then 1 else 0) + n ≤ 1 → 1 ≤ n → ((q == s) ≡ false) × (n ≤ 1)
       apart q n h some = (elim (q == s) as (λ b. (if b then 1 else 0) + n ≤ 1 → (b ≡ false) × (n ≤ 1)) [ true ↦ λ e. absurd (omega arith) | false ↦ λ e. (refl, omega arith) ]) h
 
-pub changes : (layout : SetInMemory) (tasks : List Held) (place : ℕ) (seen : List ℕ) (body : List Block) (slots' : List Entry) → FitTogether layout → tasks_in layout.slots layout.order ≡ tasks → place < length tasks → seen ≡ layout.order →
-    slots' ≡ set layout.slots (get_or seen place 0) (with_body body (held_in layout.slots (get_or seen place 0))).entry → Changes tasks place body (record layout { slots = slots' })
-changes layout tasks place seen body slots' sound is lt same slots_is =
+-- the slot that was read at the place of a task
+pub slot_read : (slots : List Entry) (order : List ℕ) (tasks : List Held) (place slot : ℕ) → tasks_in slots order ≡ tasks → place < length tasks
+    → slot ≡ get_or order place slot → slot ≡ get_or order place 0
+slot_read slots order tasks place slot is lt read =
+    get_or_read_under order place (length order) slot 0 read (omega (arith, length-map order (held_in slots), ap length is, lt)) refl
+
+pub changes : (layout : SetInMemory) (tasks : List Held) (place slot : ℕ) (body : List Block) (slots' : List Entry) → FitTogether layout → tasks_in layout.slots layout.order ≡ tasks → place < length tasks → slot ≡ get_or layout.order place slot →
+    slots' ≡ set layout.slots slot (with_body body (held_in layout.slots slot)).entry → Changes tasks place body (record layout { slots = slots' })
+changes layout tasks place slot body slots' sound is lt read slots_is =
+    let same = slot_read layout.slots layout.order tasks place slot is lt read in
     let s : ℕ = get_or layout.order place 0 in
     let within : place < length layout.order = omega (arith, length-map layout.order (held_in layout.slots), ap length is) in
     let small : s < 64 = All-at (λ q. q < 64) layout.order place 0 within sound.taken in
     let room : s < length layout.slots = omega (arith, small, sound.room) in
-    let slots_are : slots' ≡ changed layout.slots s body room = slots_is ∙ ap (λ l. set layout.slots (get_or l place 0) (with_body body (held_in layout.slots (get_or l place 0))).entry) same in
+    let slots_are : slots' ≡ changed layout.slots s body room = slots_is ∙ ap (λ q. set layout.slots q (with_body body (held_in layout.slots q)).entry) same in
     let new_sound : FitTogether (record layout { slots = changed layout.slots s body room }) = record {
       room = length-set layout.slots s (with_body body (held_in layout.slots s)).entry ∙ sound.room;
       wide = sound.wide;
@@ -662,24 +647,25 @@ changes layout tasks place seen body slots' sound is lt same slots_is =
       rest = ap (λ l. tasks_in l layout.order) slots_are ∙ change_is layout.slots s body room layout.order place within once refl ∙ ap (λ l. change_at l place (with_body body)) is;
     }
 
-pub body_is : (slots : List Entry) (order : List ℕ) (tasks : List Held) (place : ℕ) (seen : List ℕ) (taken : List Block) → tasks_in slots order ≡ tasks → place < length tasks → seen ≡ order → taken ≡ (get_or slots (get_or seen place 0) no_entry).body →
+pub body_is : (slots : List Entry) (order : List ℕ) (tasks : List Held) (place slot : ℕ) (taken : List Block) → tasks_in slots order ≡ tasks → place < length tasks → slot ≡ get_or order place slot → taken ≡ (get_or slots slot no_entry).body →
     option_map (λ e. e.body) (entry_at tasks place) ≡ Some taken
-body_is slots order tasks place seen taken is lt same taken_is =
+body_is slots order tasks place slot taken is lt read taken_is =
     ap (λ l. option_map (λ e. e.body) (entry_at l place)) (sym is)
     ∙ ap (option_map (λ e. e.body)) (entry_at_or slots order place 0 (omega (arith, length-map order (held_in slots), ap length is)))
-    ∙ ap (λ l. Some (get_or slots (get_or l place 0) no_entry).body) (sym same)
+    ∙ ap (λ q. Some (get_or slots q no_entry).body) (sym (slot_read slots order tasks place slot is lt read))
     ∙ ap Some (sym taken_is)
 
 -- no other task lies in the slot of a task
-pub slot_alone : (layout : SetInMemory) (tasks : List Held) (place : ℕ) (seen : List ℕ) → FitTogether layout → tasks_in layout.slots layout.order ≡ tasks → place < length tasks → seen ≡ layout.order →
-    (get_or seen place 0 < 64) × (count_of (get_or seen place 0) (slots_of tasks) ≡ 1)
-slot_alone layout tasks place seen sound is lt same =
+pub slot_alone : (layout : SetInMemory) (tasks : List Held) (place slot : ℕ) → FitTogether layout → tasks_in layout.slots layout.order ≡ tasks → place < length tasks → slot ≡ get_or layout.order place slot →
+    (slot < 64) × (count_of slot (slots_of tasks) ≡ 1)
+slot_alone layout tasks place slot sound is lt read =
+    let same = slot_read layout.slots layout.order tasks place slot is lt read in
     let within : place < length layout.order = omega (arith, length-map layout.order (held_in layout.slots), ap length is) in
     let small : get_or layout.order place 0 < 64 = All-at (λ q. q < 64) layout.order place 0 within sound.taken in
     let once = sound.once (get_or layout.order place 0) small in
     let some = count_at layout.order place (get_or layout.order place 0) within refl in
     let one : count_of (get_or layout.order place 0) layout.order ≡ 1 = omega arith in
-    subst (λ l. (get_or l place 0 < 64) × (count_of (get_or l place 0) (slots_of tasks) ≡ 1)) (sym same)
+    subst (λ q. (q < 64) × (count_of q (slots_of tasks) ≡ 1)) (sym same)
     (small, ap (count_of (get_or layout.order place 0)) (sym (sym (slots_of_tasks layout.slots layout.order) ∙ ap slots_of is)) ∙ one)
 
 -- a slot that none of these has

@@ -7,7 +7,7 @@ use Rattle.satl_base.specs.Limits.{most_held}
 use Rattle.satl_base.specs.Lists.{how_many}
 use Rattle.satl_line.specs.declared.entry.Entry.{Entry}
 use Rattle.satl_line.specs.Blank.{no_entry}
-use Rattle.satl_line.specs.Conflict.{Access, access_of, accesses_conflict}
+use Rattle.satl_line.specs.Conflict.{Access, access_of, accesses_conflict, conflicts}
 use Rattle.satl_line.specs.Tasks.{Held, count_of, slots_of, total_blocks}
 use Rattle.satl_line.specs.declared.outline.Outline.{Outline}
 use Rattle.satl_line.specs.declared.passed.Passed.{Passed}
@@ -49,6 +49,11 @@ pub record IsMasked (tasks : List Held) (masks : List ℕ) : Type 0 where
   pub full : HaveMasks [] (map mark_of tasks) masks
   pub empty : (q : ℕ) → count_of q (slots_of tasks) ≡ 0 → slice_index_or masks q 0 ≡ 0
 
+-- the mask has those of these slots, the bits of a number, whose task conflicts with this one
+abbrev pub IsMaskAmong : List Entry → ℕ → Entry → ℕ → Type 0
+IsMaskAmong slots among entry mask =
+    (slot : ℕ) → slot < 64 → bit_at mask slot ≡ (if conflicts (held_in slots slot).entry entry then bit_at among slot else 0)
+
 -- a mask without a slot
 abbrev pub clear_bit : ℕ → ℕ → ℕ
 clear_bit slot mask = bit_and mask (bit_not w64 (1 * 2 ^ slot % 2 ^ 64))
@@ -77,6 +82,10 @@ IsNoted outlines active slot = bit_at active slot ≡ (if is_active (outline_in 
 pub record AreNoted (outlines : List Outline) (order free : List ℕ) (active : ℕ) : Type 0 where
   pub held : AllByRecursion (IsNoted outlines active) order
   pub vacant : AllByRecursion (λ slot. bit_at active slot ≡ 0) free
+
+-- the bit of a slot is 1 where a task lies in it, and else 0
+abbrev pub IsTakenMask : List ℕ → ℕ → Type 0
+IsTakenMask order taken = (slot : ℕ) → slot < 64 → bit_at taken slot ≡ count_of slot order
 
 -- the low byte of a tag
 abbrev pub low_byte : Tag → ℕ

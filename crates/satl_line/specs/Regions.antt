@@ -1,5 +1,5 @@
 -- Which slots have a task near which blocks (profile, all of it).
-use Rattle.std.specs.Prelude.{◌≡◌, ◌<◌, ℕ, ◌+◌, ◌/◌, ◌%◌, Bool, false, true, ◌||◌, nat_lt, List, MatchBool, length, slice_index, slice_set}
+use Rattle.std.specs.Prelude.{◌≡◌, ◌<◌, ◌≤◌, ℕ, ◌+◌, ◌/◌, ◌%◌, Bool, false, true, ◌||◌, nat_lt, List, MatchBool, length, slice_index, slice_set}
 use Rattle.std.specs.Int.{bit_at}
 use Rattle.std.specs.List.{AllByRecursion}
 use Rattle.satl_line.specs.declared.entry.Entry.{Entry}
@@ -7,7 +7,7 @@ use Rattle.satl_line.specs.declared.outline.Outline.{Outline}
 use Rattle.satl_line.specs.declared.regions.Regions.{Regions}
 use Rattle.satl_line.specs.Conflict.{conflicts}
 use Rattle.satl_line.specs.Layout.{clear_bit, with_slot}
-use Rattle.satl_line.specs.Tasks.{Held}
+use Rattle.satl_line.specs.Tasks.{Held, count_of, slots_of}
 use Rattle.satl_line.specs.Outlines.{outline_in, spans_meet}
 
 -- the stretch of a block: 64 blocks lie in one
@@ -54,6 +54,10 @@ HasAllNear regions outline among =
 -- a task whose slot is not among these does not conflict with this one
 abbrev pub MayLeaveOut : Entry → ℕ → Held → Type 0
 MayLeaveOut entry among held = bit_at among held.slot ≡ 0 → conflicts held.entry entry ≡ false
+
+-- one of the tasks lies in each of these slots, the bits of a number
+abbrev pub AllHaveTasks : List Held → ℕ → Type 0
+AllHaveTasks tasks among = (slot : ℕ) → slot < 64 → bit_at among slot ≤ count_of slot (slots_of tasks)
 
 -- the task in each of these slots is noted
 pub record AreNear (regions : Regions) (outlines : List Outline) (order : List ℕ) : Type 0 where

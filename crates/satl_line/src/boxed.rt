@@ -83,8 +83,8 @@ fn blank() -> Entry
         blocks: 0,
         command: Command::TestUnitReady,
         body: Pages::default(),
-        ranges: ArrayVec::new(),
         change: None,
         expected: None,
+        ranges: ArrayVec::new(),
     }
 }

@@ -50,10 +50,11 @@ pub struct Entry {
     pub command: Command,
     /// Its pages: data-out, room for data-in, or the entries of an UNMAP whose trim is queued.
     pub body: Pages,
-    /// The range of a READ or WRITE, the ranges of an UNMAP; none for all others.
-    pub ranges: ArrayVec<Range, MOST_RANGES>,
     /// What a MODE SELECT changes.
     pub change: Option<ModeChange>,
     /// How many bytes of data-in the host takes, where it said so.
     pub expected: Option<u32>,
+    // It is last, so that all other fields, which are read as the task goes on, lie side by side.
+    /// The range of a READ or WRITE, the ranges of an UNMAP; none for all others.
+    pub ranges: ArrayVec<Range, MOST_RANGES>,
 }

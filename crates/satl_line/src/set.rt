@@ -8,9 +8,9 @@ ghost use Rattle.satl_base.specs.Lists.{change_at};
 ghost use Rattle.satl_line.specs.Conflict.{access_of, conflicts};
 ghost use Rattle.satl_line.specs.Eligible.{eligible_at};
 ghost use Rattle.satl_line.specs.Tasks.{Adds, AreMasks, AreOwnSlots, IsReadyMask, count_of, entries_of, entry_at, is_named, is_too_much, slots_of, total_blocks, with_body};
-ghost use Rattle.satl_line.specs.Layout.{IsMask, HasNoOther, clear_bit, cleared, held_in, is_unbarred_at, low_byte, mark_of, one_fewer, one_more, tasks_in, with_slot};
-ghost use Rattle.satl_line.specs.Outlines.{AreOutlines, IsOutline, is_of_name, no_outline, outline_in, outlines_in};
-ghost use Rattle.satl_line.specs.Regions.{MayLeaveOut};
+ghost use Rattle.satl_line.specs.Layout.{IsMask, IsMaskAmong, HasNoOther, clear_bit, cleared, held_in, is_unbarred_at, low_byte, mark_of, one_fewer, one_more, with_slot};
+ghost use Rattle.satl_line.specs.Outlines.{IsOutline, is_of_name, no_outline, outline_in, outlines_in};
+ghost use Rattle.satl_line.specs.Regions.{AllHaveTasks, MayLeaveOut};
 
 use crate::boxed::TaskBox;
 use crate::conflict::conflict;
@@ -18,12 +18,16 @@ use crate::entry::Entry;
 use crate::outline::Outline;
 use crate::passed::Passed;
 use crate::regions::Regions;
-use crate::slots::{first_outside, has_slot};
+use crate::slots::{first_outside, has_slot, lowest_slot};
 use arrayvec::ArrayVec;
-use satl_base::{MOST_HELD, MOST_TASKS, Nexus, NoMemory, Pages, Tag};
+use satl_base::{MOST_HELD, MOST_TASKS, Nexus, NoMemory, Pages, Sequence, Tag};
 use std::alloc::Global;
 use std::marker::Model;
 use std::mem;
+
+/// The room of the order of arrival: sixteen times what it holds, so that it is seldom used up and slots seldom move to its
+/// front.
+const ORDER_ROOM: usize = 16 * MOST_TASKS;
 
 /// The task set is full, or the blocks of its tasks are too many (SAM-5, TASK SET FULL; profile).
 #[derive(Clone, Copy, Debug, PartialEq, Eq)]
@@ -38,13 +42,14 @@ pub struct TaskSetFull;
 pub struct TaskSet {
     slots: Vec<TaskBox>,
     outlines: [Outline; MOST_TASKS],
-    order: ArrayVec<u8, MOST_TASKS>,
+    order: Sequence<u8, ORDER_ROOM>,
     free: ArrayVec<u8, MOST_TASKS>,
     masks: [u64; MOST_TASKS],
     // The slots that masks may have, as the bits of a number: mostly none.
     marked: u64,
     blocks: u32,
-    // The slots whose task writes or stands alone, as the bits of a number.
+    // The slots with a task, and those whose task writes or stands alone, as the bits of numbers.
+    taken: u64,
     active: u64,
     // For each low byte of a tag the number of tasks that have it: mostly 0 for the tag of a task that comes.
     tag_counts: [u8; 256],
@@ -57,24 +62,25 @@ pub struct TaskSet {
 impl Model for TaskSet {
     ghost use Rattle.std.specs.Prelude.{List};
     ghost use Rattle.satl_line.specs.Tasks.{Held};
-    ghost use Rattle.satl_line.specs.Layout.{FitTogether, HasPassed, tasks_in};
+    ghost use Rattle.satl_line.specs.Layout.{FitTogether, HasPassed, IsTakenMask, tasks_in};
     ghost use Rattle.satl_line.specs.Regions.{AreNear};
 
     ghost Value = { List Held };
 
-    ghost view = { λ s. tasks_in s.slots.items s.order.items };
+    ghost view = { λ s. tasks_in s.slots.items s.order };
 
     ghost invariant = { λ s. FitTogether (record {
       slots = s.slots.items;
       outlines = s.outlines;
-      order = s.order.items;
+      order = s.order;
       free = s.free.items;
       masks = s.masks;
       marked = s.marked;
       blocks = s.blocks;
       active = s.active;
       tag_counts = s.tag_counts;
-    }) × HasPassed s.order.items s.passed × AreNear s.regions s.outlines s.order.items };
+    }) × HasPassed s.order s.passed × AreNear s.regions s.outlines s.order
+        × IsTakenMask s.order s.taken };
 }
 
 impl TaskSet {
@@ -93,11 +99,12 @@ impl TaskSet {
         Ok(TaskSet {
             slots,
             outlines: no_outlines(),
-            order: ArrayVec::new(),
+            order: Sequence::new(),
             free,
             masks: no_masks(),
             marked: 0,
             blocks: 0,
+            taken: 0,
             active: 0,
             tag_counts: no_counts(),
             passed: Passed::none(),
@@ -145,6 +152,7 @@ impl TaskSet {
         };
         self.masks[slot as usize] = mask;
         self.marked |= mask;
+        self.taken |= 1 << slot;
         self.active = with_slot(self.active, slot, outline.is_active());
         self.regions.note(slot, &outline);
         self.outlines[slot as usize] = outline;
@@ -165,6 +173,7 @@ impl TaskSet {
         mem::swap(&mut self.slots[slot as usize], task);
         clear_slot(&mut self.masks, slot, self.marked);
         self.marked &= !(1 << slot);
+        self.taken &= !(1 << slot);
         self.active &= !(1 << slot);
         self.passed = self.passed.without(place, slot);
         let outline = self.outlines[slot as usize];
@@ -180,14 +189,14 @@ impl TaskSet {
         requires { place < length self.now }
         ensures { result ≡ eligible_at (entries_of self.now) place }
     {
-        mask_at(&self.masks, self.order[place]) == 0
+        mask_at(&self.masks, self.order.at(place)) == 0
     }
 
     /// The places with an eligible task, as the bits of a number, the lowest for place 0 (profile).
     pub fn ready(&self) -> u64
         ensures { IsReadyMask self.now result }
     {
-        ready_places(&self.masks, &self.order)
+        ready_places(&self.masks, self.order.as_slice())
     }
 
     /// The place of the first task of this nexus and tag. None exactly where there is none (profile).
@@ -198,7 +207,7 @@ impl TaskSet {
         if count_at(&self.tag_counts, tag) == 0 {
             return None;
         }
-        find_in(&self.outlines, &self.order, nexus, tag)
+        find_in(&self.outlines, self.order.as_slice(), nexus, tag)
     }
 
     /// The first task. None exactly where there is none (profile).
@@ -208,7 +217,7 @@ impl TaskSet {
         if self.is_empty() {
             None
         } else {
-            Some(entry_in(&self.slots, self.order[0]))
+            Some(entry_in(&self.slots, self.order.at(0)))
         }
     }
 
@@ -217,7 +226,7 @@ impl TaskSet {
         requires { place < length self.now }
         ensures { entry_at self.now place ≡ Some result.now }
     {
-        entry_in(&self.slots, self.order[place])
+        entry_in(&self.slots, self.order.at(place))
     }
 
     /// Takes the pages of the task at a place, which then has none (profile).
@@ -227,7 +236,7 @@ impl TaskSet {
         ensures emptied { option_map (λ entry. entry.body) (entry_at self.new place) ≡ Some [] }
         ensures others { self.new ≡ change_at self.old place (with_body []) }
     {
-        let slot = self.order[place];
+        let slot = self.order.at(place);
         swap_body(&mut self.slots, slot, Pages::default())
     }
 
@@ -237,7 +246,7 @@ impl TaskSet {
         requires none { option_map (λ entry. entry.body) (entry_at self.old place) ≡ Some [] }
         ensures { self.new ≡ change_at self.old place (with_body body) }
     {
-        let slot = self.order[place];
+        let slot = self.order.at(place);
         swap_body(&mut self.slots, slot, body);
     }
 
@@ -248,14 +257,14 @@ impl TaskSet {
         ensures small { result < 64 }
         ensures alone { count_of result (slots_of self.now) ≡ 1 }
     {
-        self.order[place]
+        self.order.at(place)
     }
 
     /// The place of the task in a slot. None exactly where the slot is empty, or where there is no such slot (profile).
     pub fn place_of(&self, slot: u8) -> Option<usize>
         ensures { result ≡ position_from (λ held. held.slot == slot) 0 self.now }
     {
-        place_in(&self.order, slot)
+        place_in(self.order.as_slice(), slot)
     }
 
     /// The first place, from this one on, of a task whose slot is not among these, the bits of a number. None exactly where
@@ -266,10 +275,10 @@ impl TaskSet {
         ensures value { result ≡ position_from (λ slot. bit_at slots slot == 0) from (drop from (slots_of self.old)) }
         ensures same { self.new ≡ self.old }
     {
-        let start = self.passed.start(&self.order, from, slots);
-        let found = first_outside(&self.order, start, slots);
+        let start = self.passed.start(self.order.as_slice(), from, slots);
+        let found = first_outside(self.order.as_slice(), start, slots);
         if from == 0 {
-            self.passed = Passed::before(&self.order, found, slots);
+            self.passed = Passed::before(self.order.as_slice(), found, slots);
         }
         found
     }
@@ -289,28 +298,20 @@ impl TaskSet {
         ensures { IsMask (map mark_of self.now) (access_of entry.now) result }
     {
         let among = self.candidates(entry, outline);
-        if among == 0 {
-            return 0;
-        }
-        mask_against(
-            &self.slots,
-            &self.outlines,
-            &self.order,
-            among,
-            entry,
-            outline,
-        )
+        mask_against(&self.slots, &self.outlines, among, entry, outline)
     }
 
-    /// The slots whose tasks may conflict with a new one, as the bits of a number: they are near it, and they write or stand
-    /// alone where it does neither.
+    /// The slots whose tasks may conflict with a new one, as the bits of a number: these are near it, and write or stand alone
+    /// where it does neither.
+    // Regions may have slots without a task.
     fn candidates(&self, entry: &Entry, outline: &Outline) -> u64
         requires { IsOutline entry.now outline.now }
-        ensures { AllByRecursion (MayLeaveOut entry.now result) self.now }
+        ensures taken { AllHaveTasks self.now result }
+        ensures others { AllByRecursion (MayLeaveOut entry.now result) self.now }
     {
         let beside = self.regions.beside(outline);
         if outline.is_active() {
-            beside
+            beside & self.taken
         } else {
             beside & self.active
         }
@@ -384,49 +385,31 @@ fn count_down(tag_counts: &mut [u8], tag: Tag)
     tag_counts[low_byte(tag)] -= 1;
 }
 
-/// The slots of the tasks that conflict with this one, as the bits of a number. Only those among some slots are looked at.
+/// Those of some slots, the bits of a number, whose tasks conflict with this one.
+// It takes a step for each of them, of which there are mostly one or two.
 fn mask_against(
     slots: &[TaskBox],
     outlines: &[Outline],
-    order: &[u8],
     among: u64,
     entry: &Entry,
     outline: &Outline,
 ) -> u64
     requires room { length slots.now ≡ 64 }
-    requires small { AllByRecursion (λ slot. slot < 64) order.now }
-    requires told { AreOutlines slots.now outlines.now order.now }
+    requires wide { length outlines.now ≡ 64 }
+    requires told { (slot : ℕ) → slot < 64 → bit_at among slot ≡ 1
+        → IsOutline (held_in slots.now slot).entry (outline_in outlines.now slot) }
     requires own { IsOutline entry.now outline.now }
-    requires left_out { AllByRecursion (MayLeaveOut entry.now among) (tasks_in slots.now order.now) }
-    ensures { IsMask (map mark_of (tasks_in slots.now order.now)) (access_of entry.now) result }
+    ensures { IsMaskAmong slots.now among entry.now result }
 {
     let mut mask = 0u64;
-    for slot in order {
-        if conflicts_among(slots, outlines, among, *slot, entry, outline) {
-            mask |= 1 << *slot;
-        }
+    let mut rest = among;
+    while rest != 0 {
+        let slot = lowest_slot(rest);
+        rest &= !(1 << slot);
+        let conflicting = conflicts_in(slots, outlines, slot, entry, outline);
+        mask = with_slot(mask, slot, conflicting);
     }
     mask
-}
-
-/// Whether the task in a slot conflicts with this one. That is only asked where the slot is among those whose tasks may.
-fn conflicts_among(
-    slots: &[TaskBox],
-    outlines: &[Outline],
-    among: u64,
-    slot: u8,
-    entry: &Entry,
-    outline: &Outline,
-) -> bool
-    requires small { slot < 64 }
-    requires room { length slots.now ≡ 64 }
-    requires wide { length outlines.now ≡ 64 }
-    requires told { IsOutline (held_in slots.now slot).entry (outline_in outlines.now slot) }
-    requires own { IsOutline entry.now outline.now }
-    requires left_out { MayLeaveOut entry.now among (held_in slots.now slot) }
-    ensures { result ≡ conflicts (held_in slots.now slot).entry entry.now }
-{
-    has_slot(among, slot) && conflicts_in(slots, outlines, slot, entry, outline)
 }
 
 /// Whether the task in a slot conflicts with this one. The outlines are asked first, and the task where they leave it open.

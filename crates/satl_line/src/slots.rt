@@ -1,5 +1,5 @@
 // Slots, as the bits of a number.
-ghost use Rattle.std.specs.Prelude.{◌≡◌, ◌≤◌, ◌<◌, ◌==◌, if◌then◌else◌, length, drop};
+ghost use Rattle.std.specs.Prelude.{◌≡◌, ◌≤◌, ◌<◌, ◌==◌, ℕ, if◌then◌else◌, length, drop};
 ghost use Rattle.std.specs.Int.{bit_at};
 ghost use Rattle.std.specs.List.{AllByRecursion, position_from};
 
@@ -9,6 +9,16 @@ pub fn has_slot(slots: u64, slot: u8) -> bool
     ensures { bit_at slots slot ≡ (if result then 1 else 0) }
 {
     (slots >> slot) & 1 == 1
+}
+
+/// The lowest of some slots, the bits of a number.
+pub(crate) fn lowest_slot(slots: u64) -> u8
+    requires { 0 < slots }
+    ensures small { result < 64 }
+    ensures among { bit_at slots result ≡ 1 }
+    ensures lowest { (slot : ℕ) → slot < result → bit_at slots slot ≡ 0 }
+{
+    slots.trailing_zeros() as u8
 }
 
 /// The first place, from this one on, whose slot is not among these. None exactly where there is none.

@@ -6,10 +6,10 @@ use Rattle.satl_line.proofs.set.TaskSet.first_outside.Goals as goal
 
 pub returns-then-from-eq0-clause-value : goal.returns-then-from-eq0-clause-value
 returns-then-from-eq0-clause-value c =
-    found_from c.self.inside.order.items c.deref.result.now c.deref-2.result.now (slots_of c.args.self.now) c.args.from c.start-start.result c.args.slots c.first_outside-found.result c.first_outside-found.ensures c.deref.ensures.0 c.deref-2.ensures.0
-    (sym (slots_of_tasks c.self.inside.slots.items c.self.inside.order.items) ∙ ap slots_of c.self.view_is) c.start-start.ensures.same
+    found_from c.self.inside.order c.as_slice.result.now c.as_slice-2.result.now (slots_of c.args.self.now) c.args.from c.start-start.result c.args.slots c.first_outside-found.result c.first_outside-found.ensures c.as_slice.ensures c.as_slice-2.ensures
+    (sym (slots_of_tasks c.self.inside.slots.items c.self.inside.order) ∙ ap slots_of c.self.view_is) c.start-start.ensures.same
 
 pub returns-else-from-eq0-clause-value : goal.returns-else-from-eq0-clause-value
 returns-else-from-eq0-clause-value c =
-    found_from c.self.inside.order.items c.deref.result.now c.deref-2.result.now (slots_of c.args.self.now) c.args.from c.start-start.result c.args.slots c.first_outside-found.result c.first_outside-found.ensures c.deref.ensures.0 c.deref-2.ensures.0
-    (sym (slots_of_tasks c.self.inside.slots.items c.self.inside.order.items) ∙ ap slots_of c.self.view_is) c.start-start.ensures.same
+    found_from c.self.inside.order c.as_slice.result.now c.as_slice-2.result.now (slots_of c.args.self.now) c.args.from c.start-start.result c.args.slots c.first_outside-found.result c.first_outside-found.ensures c.as_slice.ensures c.as_slice-2.ensures
+    (sym (slots_of_tasks c.self.inside.slots.items c.self.inside.order) ∙ ap slots_of c.self.view_is) c.start-start.ensures.same

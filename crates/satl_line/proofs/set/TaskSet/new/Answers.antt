@@ -1,4 +1,5 @@
 use Rattle.std.proofs.Common.{ap, arith, length}
+use Rattle.satl_line.proofs.AmongLemmas.{taken_none}
 use Rattle.satl_line.proofs.NearLemmas.{near_none}
 use Rattle.satl_line.proofs.SlotsLemmas.{free_more, sound_new}
 use Rattle.satl_line.proofs.set.TaskSet.new.Goals as goal
@@ -13,8 +14,9 @@ loop-slot-preserved c = record {
 
 pub invariant_of-result : goal.invariant_of-result
 invariant_of-result c = (
-  sound_new c.loop-slot.slots.items c.no_outlines.result c.loop-slot.free.items c.no_masks.result c.new-2.result.items c.no_counts.result (ap length c.no_outlines.ensures) (omega (arith, c.loop-slot.invariant.slots)) c.new-2.ensures c.no_masks.ensures c.no_counts.ensures (omega (arith, c.loop-slot.invariant.free))
+  sound_new c.loop-slot.slots.items c.no_outlines.result c.loop-slot.free.items c.no_masks.result c.new-2.result c.no_counts.result (ap length c.no_outlines.ensures) (omega (arith, c.loop-slot.invariant.slots)) c.new-2.ensures c.no_masks.ensures c.no_counts.ensures (omega (arith, c.loop-slot.invariant.free))
       c.loop-slot.invariant.up_to.small (λ q lt. c.loop-slot.invariant.up_to.once q (omega arith)),
-  c.none.ensures c.new-2.result.items,
-  near_none c.none-2.result c.no_outlines.result c.new-2.result.items c.none-2.ensures c.new-2.ensures,
+  c.none.ensures c.new-2.result,
+  near_none c.none-2.result c.no_outlines.result c.new-2.result c.none-2.ensures c.new-2.ensures,
+  taken_none c.new-2.result c.new-2.ensures,
 )

@@ -6,4 +6,4 @@ use Rattle.satl_line.proofs.set.TaskSet.ready.Goals as goal
 pub returns : goal.returns
 returns c = λ p lt.
     c.ready_places.ensures.bits p lt
-    ∙ ap bit (free_is c.self.inside.slots.items c.self.inside.order.items c.deref.result.now c.self.inside.masks c.args.self.now p c.deref.ensures.0 c.self.view_is c.self.invariant.0.taken c.self.invariant.0.masked c.ready_places.ensures.fits)
+    ∙ ap bit (free_is c.self.inside.slots.items c.self.inside.order c.as_slice.result.now c.self.inside.masks c.args.self.now p c.as_slice.ensures c.self.view_is c.self.invariant.0.taken c.self.invariant.0.masked c.ready_places.ensures.fits)

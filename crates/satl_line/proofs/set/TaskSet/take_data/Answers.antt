@@ -7,26 +7,27 @@ use Rattle.satl_line.proofs.set.TaskSet.take_data.Goals as goal
 
 pub invariant_of-self : goal.invariant_of-self
 invariant_of-self c = (
-  (changes _ c.args.self.now c.args.place c.deref.result.now c.default.result c.swap_body.new.slots.items
-      c.self.invariant.0 c.self.view_is c.requires c.deref.ensures.0 c.swap_body.ensures.items).sound,
+  (changes _ c.args.self.now c.args.place c.at-slot.result c.default.result c.swap_body.new.slots.items
+      c.self.invariant.0 c.self.view_is c.requires c.at-slot.ensures c.swap_body.ensures.items).sound,
   c.self.invariant.1,
   c.self.invariant.2,
+  c.self.invariant.3,
 )
 
 pub returns-clause-value : goal.returns-clause-value
 returns-clause-value c =
-    body_is c.self.inside.slots.items c.self.inside.order.items c.args.self.now c.args.place c.deref.result.now c.swap_body.result c.self.view_is c.requires c.deref.ensures.0 c.swap_body.ensures.value
+    body_is c.self.inside.slots.items c.self.inside.order c.args.self.now c.args.place c.at-slot.result c.swap_body.result c.self.view_is c.requires c.at-slot.ensures c.swap_body.ensures.value
 
 pub returns-clause-others : goal.returns-clause-others
 returns-clause-others c =
-    (changes _ c.args.self.now c.args.place c.deref.result.now c.default.result c.swap_body.new.slots.items
-    c.self.invariant.0 c.self.view_is c.requires c.deref.ensures.0 c.swap_body.ensures.items).rest
+    (changes _ c.args.self.now c.args.place c.at-slot.result c.default.result c.swap_body.new.slots.items
+    c.self.invariant.0 c.self.view_is c.requires c.at-slot.ensures c.swap_body.ensures.items).rest
     ∙ ap (λ b. change_at c.args.self.now c.args.place (with_body b)) c.default.ensures
 
 pub returns-clause-emptied : goal.returns-clause-emptied
 returns-clause-emptied c =
     ap (λ l. option_map (λ e. e.body) (entry_at l c.args.place))
-    ((changes _ c.args.self.now c.args.place c.deref.result.now c.default.result c.swap_body.new.slots.items
-    c.self.invariant.0 c.self.view_is c.requires c.deref.ensures.0 c.swap_body.ensures.items).rest
+    ((changes _ c.args.self.now c.args.place c.at-slot.result c.default.result c.swap_body.new.slots.items
+    c.self.invariant.0 c.self.view_is c.requires c.at-slot.ensures c.swap_body.ensures.items).rest
     ∙ ap (λ b. change_at c.args.self.now c.args.place (with_body b)) c.default.ensures)
     ∙ body-changed c.args.self.now c.args.place [] c.requires
