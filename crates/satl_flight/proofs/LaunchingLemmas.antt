@@ -64,6 +64,11 @@ length-whole flying slots tasks = length-map tasks (whole_task flying slots)
 pub launched_none : (queue : Waiting) (old : DriveState) → IsInFlight queue.flying queue.tasks old → IsLaunched (on_drive queue old) (on_drive queue old)
 launched_none queue old tie = record { tie = tie; rest = []; more = sym (append-nil queue.flying); lost = inl refl; stays = refl; deep = deepens_same old }
 
+-- a task that waits for an earlier one may not be issued
+pub covered_barred : (flying : List Flying) (slots : Slots) (tasks whole : List Held) → whole_tasks flying slots tasks ≡ whole → (place : ℕ) → eligible_at (entries_of tasks) place ≡ false → IsIssuedIfItMay flying whole place
+covered_barred flying slots tasks whole same place barred =
+    inr (λ h task at passes ranged. let no_pass : true ≡ false = sym passes ∙ ap (λ ts. eligible_by clash ts place) (sym same) ∙ same_test flying slots tasks place ∙ barred in absurd cc)
+
 module _ (flying : List Flying) (slots : Slots) (tasks : List Held) (lending : IsLending flying slots tasks) (old : DriveState) (tie : IsInFlight flying (whole_tasks flying slots tasks) old)
     (place slot : ℕ) (entry : Entry) (is : entry_at tasks place ≡ Some entry) (in_slot : slice_get (slots_of tasks) place ≡ Some slot) (alone : count_of slot (slots_of tasks) ≡ 1) where
   stands : slice_get tasks place ≡ Some (record { slot = slot; entry = entry })
@@ -97,7 +102,7 @@ module _ (flying : List Flying) (slots : Slots) (tasks : List Held) (lending : I
       go : (b : Bool) → is_outstanding flying slot ≡ b → (e : Bool) → eligible_at (entries_of tasks) place ≡ e → IsIssuedIfItMay flying (whole_tasks flying slots tasks) place
       go true held e test = inr (λ h task at passes ranged. ap (is_outstanding flying) (its_slot h at) ∙ held)
       go false fresh true test = inl (otherwise test fresh)
-      go false fresh false test = inr (λ h task at passes ranged. let no_pass : true ≡ false = sym passes ∙ same_test flying slots tasks place ∙ test in absurd cc)
+      go false fresh false test = covered_barred flying slots tasks _ refl place test
 
   -- one is issued
   module _ (fresh : is_outstanding flying slot ≡ false) (passes : eligible_at (entries_of tasks) place ≡ true) (task : RangedTask) (ranged : ranged_of entry ≡ Some task) (tag : ℕ) (small : tag < 32) (free : list_any (has_tag tag) flying ≡ false) where

@@ -184,6 +184,10 @@ impl Queue {
         ensures fit { IsFit (D.state drive.old) → IsFit (D.state drive.new) }
         ensures steps { steps.new ≤ steps.old + 1 }
     {
+        // No tag is free, so the task waits without a look at it.
+        if self.flight.is_full() {
+            return Ok(());
+        }
         let place = self.set.len() - 1;
         self.flight
             .launch_one(place, &mut self.set, &mut self.dma, drive, steps)
