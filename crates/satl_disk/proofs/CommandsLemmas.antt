@@ -3,7 +3,7 @@ use Rattle.std.proofs.Common.{◌≡◌, sym, ◌∙◌, ap, subst, ℕ, ◌<◌
 use Rattle.std.specs.Prelude.{◌==◌}
 use Rattle.std.specs.List.{AllByRecursion, list_any}
 use Rattle.std.proofs.lemmas.Bool.{eqb-false, or_parts}
-use Rattle.std.proofs.lemmas.List.{get_or-set_same, get_or-set_other}
+use Rattle.std.proofs.lemmas.List.{get_or-set_same, get_or-set_other, length-append, length-map}
 use Rattle.satl_base.proofs.ListsLemmas.{All-push_end}
 use Rattle.satl_regs.specs.declared.values.Queued.{Queued}
 use Rattle.satl_drive.specs.State.{Outstanding}
@@ -44,9 +44,11 @@ module _ (by_tag : List Outstanding) (order : List ℕ) (q : Outstanding) (comma
   pub commands_pushed : (new : List ℕ) → new ≡ order ++ command.tag ∷ [] → in_order (set by_tag command.tag q) new ≡ now ++ q ∷ []
   commands_pushed new e = ap (in_order (set by_tag command.tag q)) e ∙ in_order_pushed by_tag command.tag q order within kept.own is_free ∙ ap (λ qs. qs ++ q ∷ []) view
 
-  pub by_tag_pushed : (new : List ℕ) → new ≡ order ++ command.tag ∷ [] → AreByTag (set by_tag command.tag q) new
-  by_tag_pushed new e = subst (AreByTag (set by_tag command.tag q)) (sym e) (record {
+  pub by_tag_pushed : length now < 32 → (new : List ℕ) → new ≡ order ++ command.tag ∷ []
+      → AreByTag (set by_tag command.tag q) new
+  by_tag_pushed few new e = subst (AreByTag (set by_tag command.tag q)) (sym e) (record {
     room = length-set by_tag command.tag q ∙ kept.room;
+    few = omega (arith, few, ap length view, length-map order (command_at by_tag), length-append order (command.tag ∷ []));
     small = All-push_end (λ tag. tag < 32) order command.tag kept.small (omega (arith, tag_is, small));
     own = own_pushed by_tag command.tag q order within (sym tag_is) kept.own is_free;
   })

@@ -5,16 +5,19 @@ ghost use Rattle.satl_drive.specs.Queue.{is_tagged};
 ghost use Rattle.satl_disk.specs.Queue.{command_at};
 
 use crate::queue::Noted;
-use arrayvec::ArrayVec;
-use satl_base::QUEUE_DEPTH;
+use satl_base::{QUEUE_DEPTH, Sequence};
 use std::marker::Model;
 
+/// The room of the order of issue: sixteen times what it holds, so that it is seldom used up and tags seldom move to its front.
+const ORDER_ROOM: usize = 16 * QUEUE_DEPTH;
+
 /// The commands that are outstanding, at most 32, in order of issue. Clauses see the list of them.
-// Each stands at the place of its tag, and their order is that of the tags: as one leaves, bytes alone move up.
+// Each stands at the place of its tag, and their order is that of the tags: as the first leaves none moves, and as another
+// leaves, bytes alone move up.
 #[derive(Drop)]
 pub struct Commands {
     by_tag: [Noted; QUEUE_DEPTH],
-    order: ArrayVec<u8, QUEUE_DEPTH>,
+    order: Sequence<u8, ORDER_ROOM>,
 }
 
 impl Model for Commands {
@@ -24,9 +27,9 @@ impl Model for Commands {
 
     ghost Value = { List Outstanding };
 
-    ghost view = { λ c. in_order c.by_tag c.order.items };
+    ghost view = { λ c. in_order c.by_tag c.order };
 
-    ghost invariant = { λ c. AreByTag c.by_tag c.order.items };
+    ghost invariant = { λ c. AreByTag c.by_tag c.order };
 }
 
 impl Commands {
@@ -36,7 +39,7 @@ impl Commands {
     {
         Commands {
             by_tag: Default::default(),
-            order: ArrayVec::new(),
+            order: Sequence::new(),
         }
     }
 
@@ -60,7 +63,7 @@ impl Commands {
         requires { place < length self.now }
         ensures { result.now ≡ command_at self.now place }
     {
-        noted_at(&self.by_tag, self.order[place])
+        noted_at(&self.by_tag, self.order.at(place))
     }
 
     /// A command is issued, under a tag that no other has.

@@ -6,6 +6,6 @@ use Rattle.satl_disk.proofs.commands.Commands.remove.Goals as goal
 
 pub returns : goal.returns
 returns c =
-    ap (in_order c.self.inside.by_tag) c.remove.ensures.items
-    ∙ remove-map (command_at c.self.inside.by_tag) c.self.inside.order.items c.args.place
+    ap (in_order c.self.inside.by_tag) c.remove.ensures.others
+    ∙ remove-map (command_at c.self.inside.by_tag) c.self.inside.order c.args.place
     ∙ ap (λ qs. remove qs c.args.place) c.self.view_is
