@@ -169,6 +169,7 @@ stays_after old new after free fit lost stays retells = record {
   says = says_retold (medium_of old) (medium_of new) told;
   tells = λ bytes long. tells_retold bytes old new long fit told;
   unplugs = ap (λ (d : DriveState). d.unplugs) stays;
+  orders = ap (λ (d : DriveState). d.orders) stays;
   deepest = ap (λ (d : DriveState). d.deepest) stays;
 }
   where
@@ -195,6 +196,7 @@ cut_stays old new pairs fit run = record {
   says = says_told new.cache new.look old.identify new.identify run.settings.tells;
   tells = λ bytes long was. retold bytes old.identify new.identify old.cache old.look new.cache new.look long (all_bytes new.identify fit.bytes) was run.settings.tells;
   unplugs = ap (λ (d : DriveState). d.unplugs) run.cut.stays;
+  orders = ap (λ (d : DriveState). d.orders) run.cut.stays;
   deepest = ap (λ (d : DriveState). d.deepest) run.cut.stays;
 }
 
@@ -207,6 +209,7 @@ stays_on old mid new first rest = record {
   says = record { cache = rest.says.cache ∙ first.says.cache; look = rest.says.look ∙ first.says.look };
   tells = λ bytes long was. rest.tells bytes long (first.tells bytes long was);
   unplugs = rest.unplugs ∙ first.unplugs;
+  orders = rest.orders ∙ first.orders;
   deepest = rest.deepest ∙ first.deepest;
 }
 

@@ -26,7 +26,7 @@ pub record SaysSo (old new : List ℕ) : Type 0 where
 
 -- what commands leave of a drive, whatever they do and also where the link is lost: it is free for the next, with as many
 -- sectors, which are sound; its data say as before that it has a write cache and look-ahead, and are those of the same
--- identity; it was not unplugged, and its queue was never deeper (profile)
+-- identity; it was not unplugged, no order bytes were handed in, and its queue was never deeper (profile)
 pub record Stays (old new : DriveState) : Type 0 where
   pub free : IsFree new
   pub capacity : new.capacity ≡ old.capacity
@@ -34,6 +34,7 @@ pub record Stays (old new : DriveState) : Type 0 where
   pub says : SaysSo old.identify new.identify
   pub tells : (bytes : List ℕ) → length bytes ≡ 512 → TellsOf bytes old → TellsOf bytes new
   pub unplugs : new.unplugs ≡ old.unplugs
+  pub orders : new.orders ≡ old.orders
   pub deepest : new.deepest ≡ old.deepest
 
 -- the glitches are as before, or one fewer (profile)

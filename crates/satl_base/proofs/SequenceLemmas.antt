@@ -1,17 +1,20 @@
 -- A part of some places: as one comes behind it, as one leaves, and as it moves to the front.
-use Rattle.std.proofs.Common.{◌≡◌, ℕ, ◌+◌, ◌-◌, ◌<◌, ◌≤◌, ◌∙◌, ap, sym, subst, arith, rules}
+use Rattle.std.proofs.Common.{◌≡◌, ℕ, ◌+◌, ◌-◌, ◌<◌, ◌≤◌, ◌∙◌, ap, sym, subst, zero-add, arith, rules}
 use Rattle.std.proofs.Common.{List, [], ◌∷◌, ◌++◌, length, take, drop, get_or, remove, slice_range, slice_set}
-use Rattle.std.proofs.lemmas.List.{length-drop, take-append-le, take_at, drop-set-add, take_more_set}
-use Rattle.std.proofs.lemmas.List.Edits.{length-remove}
+use Rattle.std.proofs.lemmas.List.{length-drop, take_at, drop-set-add, take_more_set}
+use Rattle.std.proofs.lemmas.List.Edits.{length-remove, take-paste}
 use Rattle.std.proofs.lemmas.Slice.{between_from_start, put_mid-rotated}
+use Rattle.std.specs.List.{copy_within}
 use borrow.Rule.Slice.PartMut.{put_mid, mid_of}
 
--- it stands at the last places, and moves to the front
-pub part-at_front : {X : Type 0} (xs : List X) (a b : ℕ) → a ≤ b → b ≡ length xs
-    → slice_range (drop a xs ++ take a xs) 0 (b - a) ≡ slice_range xs a b
-part-at_front xs a b within last =
-    between_from_start (drop a xs ++ take a xs) (b - a)
-    ∙ take-append-le (b - a) (drop a xs) (take a xs) (omega (arith, length-drop a xs, last))
+-- it moves to the front
+pub part-at_front : {X : Type 0} (xs : List X) (a b : ℕ) → a ≤ b → b ≤ length xs
+    → slice_range (copy_within xs a b 0) 0 (b - a) ≡ slice_range xs a b
+part-at_front xs a b within inside =
+    let n = b - a in
+    between_from_start (copy_within xs a b 0) n
+    ∙ ap (λ m. take m (copy_within xs a b 0)) (sym (zero-add n))
+    ∙ take-paste xs 0 (drop a xs) n (omega arith) (omega (arith, length-drop a xs, inside))
 
 -- one comes behind it
 pub part-pushed : {X : Type 0} (xs : List X) (a b : ℕ) (x : X) → a ≤ b → b < length xs

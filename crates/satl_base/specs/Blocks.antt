@@ -1,5 +1,5 @@
 -- Blocks of 512 bytes, and the bytes of a list of them (profile).
-use Rattle.std.specs.Prelude.{ℕ, ◌+◌, ◌*◌, ◌/◌, ◌%◌, ◌≡◌, ◌≤◌, ◌<◌, ◌==◌, ◌&&◌, not, nat_le, nat_lt, Bool, List, [], map, replicate, slice_index, get_or, take, length}
+use Rattle.std.specs.Prelude.{ℕ, ◌+◌, ◌/◌, ◌%◌, ◌≡◌, ◌==◌, ◌&&◌, not, nat_le, nat_lt, Bool, List, [], map, replicate, slice_index, get_or, take, length}
 use Rattle.std.specs.List.{AllByRecursion, flat_map, list_all}
 use Rattle.std.specs.Simd.{first_chunks}
 use Rattle.satl_base.specs.declared.block.Block.{Block}
@@ -56,8 +56,3 @@ no_block = record { bytes = [] }
 -- the byte at a place of the blocks: byte 512 is the first of the second block (profile)
 abbrev pub byte_at : List Block → ℕ → ℕ
 byte_at blocks place = slice_index (get_or blocks (place / 512) no_block).bytes (place % 512)
-
--- the blocks are the fewest that have room for n bytes (profile)
-pub record IsFewestFor (n : ℕ) (blocks : List Block) : Type 0 where
-  pub room : n ≤ 512 * length blocks
-  pub fewest : 512 * length blocks < n + 512

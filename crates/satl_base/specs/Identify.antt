@@ -62,7 +62,7 @@ exponent d = if (word_bits 106 15 14 d == 1) && word_bit 106 13 d then word_bits
 abbrev pub has_trim : List ℕ → Bool
 has_trim d = word_bit 169 0 d && word_bit 69 14 d && word_bit 69 5 d
 
--- trims may be queued (ACS-3 7.12.7, word 77 bit 6: SEND FPDMA QUEUED)
+-- it trims, and trims may be queued (ACS-3 7.12.7, word 77 bit 6: SEND FPDMA QUEUED)
 abbrev pub has_queued_trim : List ℕ → Bool
 has_queued_trim d = has_trim d && word_bit 77 6 d
 

@@ -15,7 +15,7 @@ use std::marker::Model;
 pub enum Scsi {
     /// GOOD: the command was carried out.
     Good,
-    /// CHECK CONDITION: sense data say why it was not.
+    /// CHECK CONDITION: sense data say what there is to tell, mostly why it was not.
     CheckCondition,
     /// TASK SET FULL: there was no room for a task.
     TaskSetFull,
@@ -75,7 +75,7 @@ pub struct Reply {
     pub status: Scsi,
     /// The sense data, empty with GOOD (SPC-4 4.5).
     pub sense: SenseBytes,
-    /// The data-in, in the fewest blocks that have room for it.
+    /// The data-in, in blocks that have room for it.
     pub body: Pages,
     /// The number of bytes of the data-in.
     pub data_len: u32,

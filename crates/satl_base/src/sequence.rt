@@ -73,7 +73,7 @@ impl<T: Copy + Default, const ROOM: usize> Sequence<T, ROOM> {
         ensures { self.new ≡ self.old ++ item ∷ [] }
     {
         if self.end == ROOM {
-            self.places.rotate_left(self.start);
+            self.places.copy_within(self.start..self.end, 0);
             self.end -= self.start;
             self.start = 0;
         }

@@ -9,7 +9,8 @@ use Rattle.satl_cdb.specs.Rows.{Format, Row, row, format_of, found_says}
 use Rattle.satl_cdb.specs.PrimaryCommands.{test_unit_ready, request_sense, request_sense_code, inquiry, inquiry_code, mode_select, mode_sense, report_luns, report_luns_code}
 use Rattle.satl_cdb.specs.BlockCommands.{ten, twelve, sixteen, read_6, write_6, read, write, verify, synchronize_cache, write_same, unmap, start_stop, read_capacity_10, read_capacity_16}
 
--- SAT-3, ATA PASS-THROUGH (12) command: its bytes without bit 0 of byte 1, which is reserved, and without the control byte
+-- SAT-3, ATA PASS-THROUGH (12) command: its bytes without bit 0 of byte 1 and byte 10, which are reserved, and without the
+-- control byte
 abbrev pub pass_through_12 : Format
 pass_through_12 = record {
   rules = [];

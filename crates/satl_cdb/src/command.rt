@@ -135,7 +135,8 @@ pub enum Command {
     },
     /// ATA PASS-THROUGH (SAT-3, ATA PASS-THROUGH (12) and (16)).
     Pass {
-        /// Its bytes. Those that the command does not have are zero, and so is the control byte.
+        /// Its bytes. Those that the command does not have are zero, and so are the control byte and, of the form of 12 bytes,
+        /// bit 0 of byte 1 and byte 10, which are reserved.
         cdb: [u8; 16],
     },
 }

@@ -18,7 +18,7 @@ use crate::codes::{
 use crate::command::{Command, Form, Illegal};
 use crate::primary::{inquiry_of, mode_select_of, mode_sense_of, report_luns_of, request_sense_of};
 
-/// Bit 0 of byte 1 is reserved here, and byte 11 is the control byte.
+/// Bit 0 of byte 1 and byte 10 are reserved here, and byte 11 is the control byte.
 fn pass_through_12_of(cdb: &[u8; 16]) -> Command
     ensures { format_says pass_through_12 cdb.now ≡ Ok result }
 {

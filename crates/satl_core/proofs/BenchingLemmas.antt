@@ -16,7 +16,7 @@ use Rattle.satl_base.specs.Losses.{Loses}
 use Rattle.satl_base.proofs.CellsLemmas.{change_at-length}
 use Rattle.satl_base.proofs.LossesLemmas.{loses-sound}
 use Rattle.satl_base.proofs.MovesLemmas.{lose_once}
-use Rattle.satl_io.specs.Causes.{RoseBy}
+use Rattle.satl_io.specs.Causes.{RoseBy, next_count}
 use Rattle.satl_io.proofs.Counting.{RoseBy-none}
 use Rattle.satl_regs.specs.Effects.{IsTelling}
 use Rattle.satl_regs.specs.Sectors.{IsLeftBehind, with_flaw, without_flaws}
@@ -60,11 +60,11 @@ use Rattle.satl_core.proofs.DeviceLemmas.{rest_lost}
 
 -- ---- what the drive does
 
--- an event that changes sectors or glitches alone
+-- an event that changes sectors, glitches or the number of orders alone
 record ChangesMedium (old new : DriveState) : Type 0 where
   size : length new.cells ≡ length old.cells
   sound : AreSound old.cells → AreSound new.cells
-  stays : new ≡ record old { cells = new.cells; glitches = new.glitches }
+  stays : new ≡ record old { cells = new.cells; glitches = new.glitches; orders = new.orders }
 
 -- a change that leaves the blocks of a sector leaves all sound
 changed-sound : (f : Cell → Cell) → ((c : Cell) → IsSound c → IsSound (f c)) → (cells : List Cell) (lba : ℕ) → AreSound cells → AreSound (change_at cells lba f)
@@ -82,20 +82,17 @@ changes_at f keeps lba old new is =
     record {
       size = ap length cells ∙ change_at-length old.cells lba f;
       sound = λ sound. subst AreSound (sym cells) (changed-sound f keeps old.cells lba sound);
-      stays = is ∙ ap (λ (d : DriveState). record old { cells = d.cells; glitches = d.glitches }) (sym is);
+      stays = is ∙ ap (λ (d : DriveState). record old { cells = d.cells; glitches = d.glitches; orders = d.orders }) (sym is);
     }
 
-changes_glitches : (count : ℕ) (old new : DriveState) → new ≡ record old { glitches = count } → ChangesMedium old new
-changes_glitches count old new is =
+changes_counts : (glitches orders : ℕ) (old new : DriveState) → new ≡ record old { glitches = glitches; orders = orders } → ChangesMedium old new
+changes_counts glitches orders old new is =
     let cells : new.cells ≡ old.cells = ap (λ (d : DriveState). d.cells) is in
     record {
       size = ap length cells;
       sound = λ sound. subst AreSound (sym cells) sound;
-      stays = is ∙ ap (λ (d : DriveState). record old { cells = d.cells; glitches = d.glitches }) (sym is);
+      stays = is ∙ ap (λ (d : DriveState). record old { cells = d.cells; glitches = d.glitches; orders = d.orders }) (sym is);
     }
-
-changes_none : (old new : DriveState) → new ≡ old → ChangesMedium old new
-changes_none old new is = changes_glitches old.glitches old new is
 
 -- sectors that are left behind are sound
 left_behind-sound : (old new : List Cell) → AllZip IsLeftBehind old new → AreSound new
@@ -161,7 +158,7 @@ pub happens : (event : BenchEvent) (l new : Layer) (d d' : DriveState) (replies 
 happens (Strike which lba) l new d d' replies tied acted r = around_alone (Happens (Strike which lba)) (view l d) (view new d') replies (unanswered l new d d' replies (record d { cells = change_at d.cells lba (with_flaw which) }) acted r)
 happens (Mend lba) l new d d' replies tied acted r = around_alone (Happens (Mend lba)) (view l d) (view new d') replies (unanswered l new d d' replies (record d { cells = change_at d.cells lba without_flaws }) acted r)
 happens (Glitch count) l new d d' replies tied acted r = around_alone (Happens (Glitch count)) (view l d) (view new d') replies (unanswered l new d d' replies (record d { glitches = count }) acted r)
-happens (Order order) l new d d' replies tied acted r = around_alone (Happens (Order order)) (view l d) (view new d') replies (unanswered l new d d' replies d acted r)
+happens (Order order) l new d d' replies tied acted r = around_alone (Happens (Order order)) (view l d) (view new d') replies (unanswered l new d d' replies (record d { orders = next_count d.orders }) acted r)
 happens Power l new d d' replies tied acted r = around_alone (Happens Power) (view l d) (view new d') replies (powered l new d d' replies tied.agrees.valid.nexuses acted r)
 happens Unplug l new d d' replies tied acted r = unplugged l new d d' replies tied acted r
 
@@ -235,8 +232,8 @@ tied_unplugged l new d d' replies u r fit tied = tied_lost l new d d' (unplugged
 pub still_tied : (event : BenchEvent) (l new : Layer) (d d' : DriveState) (replies : List Reply) → IsActedOn event d d' → FollowsEvent event l replies new → IsFit d' → Tied l d → Tied new d'
 still_tied (Strike which lba) l new d d' replies acted r fit tied = tied_changed l new d d' (changes_at (with_flaw which) (flaw-sound which) lba d d' acted) r.stays fit tied
 still_tied (Mend lba) l new d d' replies acted r fit tied = tied_changed l new d d' (changes_at without_flaws (λ c sound. sound) lba d d' acted) r.stays fit tied
-still_tied (Glitch count) l new d d' replies acted r fit tied = tied_changed l new d d' (changes_glitches count d d' acted) r.stays fit tied
-still_tied (Order order) l new d d' replies acted r fit tied = tied_changed l new d d' (changes_none d d' acted) r.stays fit tied
+still_tied (Glitch count) l new d d' replies acted r fit tied = tied_changed l new d d' (changes_counts count d.orders d d' acted) r.stays fit tied
+still_tied (Order order) l new d d' replies acted r fit tied = tied_changed l new d d' (changes_counts d.glitches (next_count d.orders) d d' acted) r.stays fit tied
 still_tied Power l new d d' replies acted r fit tied = tied_powered l new d d' replies acted r fit tied
 still_tied Unplug l new d d' replies acted r fit tied = tied_unplugged l new d d' replies acted r fit tied
 

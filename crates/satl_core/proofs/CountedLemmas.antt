@@ -71,21 +71,22 @@ one_loss a b up down = ap (λ x. lost x b.down) up ∙ ap (lost false) down
 
 -- nothing was counted
 pub kept_none : (a : Layer) (d : DriveState) → AreKept a d a d
-kept_none a d = record { losses = counted_same (view a d) (view a d) d.faults d.faults refl refl; unplugs = refl; deep = deepens_same d }
+kept_none a d = record { losses = counted_same (view a d) (view a d) d.faults d.faults refl refl; unplugs = refl; orders = refl; deep = deepens_same d }
 
 -- where neither the link nor the counts changed
-pub kept_same : (a b : Layer) (d d' : DriveState) → d'.down ≡ d.down → d'.faults ≡ d.faults → d'.unplugs ≡ d.unplugs → Deepens d d' → AreKept a d b d'
-kept_same a b d d' link faults unplugs deep = record { losses = counted_same (view a d) (view b d') d.faults d'.faults link faults; unplugs = unplugs; deep = deep }
+pub kept_same : (a b : Layer) (d d' : DriveState) → d'.down ≡ d.down → d'.faults ≡ d.faults → d'.unplugs ≡ d.unplugs → d'.orders ≡ d.orders → Deepens d d' → AreKept a d b d'
+kept_same a b d d' link faults unplugs orders deep = record { losses = counted_same (view a d) (view b d') d.faults d'.faults link faults; unplugs = unplugs; orders = orders; deep = deep }
 
 -- where the count of faults rose
-pub kept_rose : (a b : Layer) (d d' : DriveState) → Rose d.faults d'.faults → d'.unplugs ≡ d.unplugs → Deepens d d' → AreKept a d b d'
-kept_rose a b d d' rose unplugs deep = record { losses = counted_rose (view a d) (view b d') d.faults d'.faults rose; unplugs = unplugs; deep = deep }
+pub kept_rose : (a b : Layer) (d d' : DriveState) → Rose d.faults d'.faults → d'.unplugs ≡ d.unplugs → d'.orders ≡ d.orders → Deepens d d' → AreKept a d b d'
+kept_rose a b d d' rose unplugs orders deep = record { losses = counted_rose (view a d) (view b d') d.faults d'.faults rose; unplugs = unplugs; orders = orders; deep = deep }
 
 -- one part of a call after the other
 pub kept_on : (a b c : Layer) (d e f : DriveState) → AreKept a d b e → AreKept b e c f → AreKept a d c f
 kept_on a b c d e f first rest = record {
   losses = counted_more (view a d) (view b e) (view c f) d.faults e.faults f.faults first.losses rest.losses;
   unplugs = rest.unplugs ∙ first.unplugs;
+  orders = rest.orders ∙ first.orders;
   deep = deepens_on d e f first.deep rest.deep;
 }
 

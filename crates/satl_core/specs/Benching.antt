@@ -57,3 +57,9 @@ FollowsEvent _ old replies new = StaysSame old replies new
 abbrev pub unplugs_after : BenchEvent → ℕ → ℕ
 unplugs_after Unplug before = next_count before
 unplugs_after _ before = before
+
+-- how often order bytes were handed in to the drive after an event: once more at ORDER, or still so often where the number is
+-- at its last value (profile)
+abbrev pub orders_after : BenchEvent → ℕ → ℕ
+orders_after (Order order) before = next_count before
+orders_after _ before = before

@@ -1,23 +1,21 @@
 -- IDENTIFY DEVICE data with another word still fit the drive.
-use Rattle.std.proofs.Common.{◌≡◌, refl, sym, ◌∙◌, ap, ℕ, ◌+◌, ◌*◌, ◌/◌, ◌%◌, ◌^◌, ◌<◌, Bool, true, false, List, [], ◌∷◌, arith, length, eqb-true, eq-eqb}
+use Rattle.std.proofs.Common.{◌≡◌, refl, sym, ◌∙◌, ap, subst, ℕ, ◌+◌, ◌*◌, ◌/◌, ◌%◌, ◌^◌, ◌<◌, Bool, true, false, List, arith, length, eqb-true, eq-eqb}
 use Rattle.std.specs.List.{AllByRecursion}
 use Rattle.std.specs.Prelude.{if◌then◌else◌, ◌==◌, ◌&&◌, slice_index}
-use Rattle.std.proofs.lemmas.Bool.{or_parts}
 use Rattle.std.proofs.lemmas.List.{get_or-set_other}
-use Rattle.satl_base.specs.Identify.{has_cache, has_look, has_trim, word, word_bit}
-use Rattle.satl_base.specs.Lists.{is_in}
+use Rattle.satl_base.specs.Identify.{capacity, has_cache, has_look, has_trim, trim_blocks, word, word_bit}
 use Rattle.satl_identify.specs.Data.{settings_byte, with_integrity, with_settings}
 use Rattle.satl_drive.specs.State.{IsFit}
 use Rattle.satl_disk.specs.Bench.{MayReword, with_word}
 use Rattle.satl_disk.specs.Data.{integrity_kept, set_word, word_is}
-use Rattle.satl_disk.specs.Disk.{Disk, TellsSettings, state_of}
+use Rattle.satl_disk.specs.Disk.{Disk, state_of}
 use Rattle.satl_disk.proofs.BytesLemmas.{IsByte, all_set, set_word_bytes, integrity_bytes}
 use Rattle.satl_disk.proofs.IdentifyLemmas.{set_word-length, word-set_word, word-with_integrity}
 use Rattle.satl_disk.proofs.SettingsLemmas.{byte_small, reworded_told}
 
 -- ---- words that are not changed
 
-word-set_word_other : (place value i : ℕ) (d : List ℕ) → length d ≡ 512 → place < 256 → (i ≡ place → ⊥) → word i (set_word (word_is place value) d) ≡ word i d
+pub word-set_word_other : (place value i : ℕ) (d : List ℕ) → length d ≡ 512 → place < 256 → (i ≡ place → ⊥) → word i (set_word (word_is place value) d) ≡ word i d
 word-set_word_other place value i d long small other =
     word-set_word (word_is place value) d i long small ∙ ap (λ b. if b then value else word i d) (eqb-differs (i == place) refl)
   where
@@ -25,7 +23,7 @@ word-set_word_other place value i d long small other =
     eqb-differs true e = absurd (other (eqb-true i place e))
     eqb-differs false e = e
 
-word-set_word_same : (place value : ℕ) (d : List ℕ) → length d ≡ 512 → place < 256 → word place (set_word (word_is place value) d) ≡ value
+pub word-set_word_same : (place value : ℕ) (d : List ℕ) → length d ≡ 512 → place < 256 → word place (set_word (word_is place value) d) ≡ value
 word-set_word_same place value d long small = word-set_word (word_is place value) d place long small ∙ ap (λ b. if b then value else word place d) (eq-eqb place place refl)
 
 word-settings : (d : List ℕ) (c l : Bool) (i : ℕ) → (i ≡ 85 → ⊥) → word i (with_settings d c l) ≡ word i d
@@ -45,12 +43,7 @@ kept_bytes place d all = elim (place == 255) as (λ b. AllByRecursion IsByte (if
 
 -- ---- the data fit
 
-not_in : (place x : ℕ) (xs : List ℕ) → is_in place (x ∷ xs) ≡ false → (x ≡ place → ⊥) × (is_in place xs ≡ false)
-not_in place x xs none =
-    let both = or_parts (place == x) (is_in place xs) none in
-    (λ same. let no : true ≡ false = sym (eq-eqb place x (sym same)) ∙ both.0 in absurd cc, both.1)
-
-module _ (place value : ℕ) (d : Disk) (small : place < 256) (wide : value < 2 ^ 16) (told : TellsSettings d.cache d.look d.identify) (may : MayReword place value d) (f : IsFit (state_of d)) where
+module _ (place value : ℕ) (d : Disk) where
   abbrev set_so : List ℕ
   set_so = set_word (word_is place value) d.identify
 
@@ -63,40 +56,50 @@ module _ (place value : ℕ) (d : Disk) (small : place < 256) (wide : value < 2 
   abbrev new : List ℕ
   new = integrity_kept place (with_settings set_so cache_on look_on)
 
-  abbrev others : (i : ℕ) → (i ≡ place → ⊥) → (i ≡ 85 → ⊥) → i < 255 → word i new ≡ word i d.identify
-  others i other not_85 low = word-kept place i (with_settings set_so cache_on look_on) low ∙ (word-settings set_so cache_on look_on i not_85 ∙ word-set_word_other place value i d.identify told.size small other)
+  same : (i : ℕ) → (i ≡ 85 → ⊥) → i < 255 → word i new ≡ word i set_so
+  same i not_85 low = word-kept place i (with_settings set_so cache_on look_on) low ∙ word-settings set_so cache_on look_on i not_85
 
-  told_now : TellsSettings cache_on look_on new
-  told_now = reworded_told place d.cache d.look set_so (set_word-length (word_is place value) d.identify ∙ told.size)
+  same_capacity : capacity new ≡ capacity set_so
+  same_capacity = rw (same 100 (λ e. omega arith) (omega arith), same 101 (λ e. omega arith) (omega arith), same 102 (λ e. omega arith) (omega arith), same 103 (λ e. omega arith) (omega arith)) refl
 
-  queued_by : (b : Bool) → (place == 77) ≡ b → word_bit 77 6 new ≡ true → has_trim d.identify ≡ true
-  queued_by true is set =
-      let same = eqb-true place 77 is in
-      let here : word 77 new ≡ value = word-kept place 77 (with_settings set_so cache_on look_on) (omega arith) ∙ (word-settings set_so cache_on look_on 77 (λ e. omega (arith, e)) ∙ (ap (λ i. word i set_so) (sym same) ∙ word-set_word_same place value d.identify told.size small)) in
-      may.queued same (ap (λ n. n / 2 ^ 6 % 2 == 1) (sym here) ∙ set)
-  queued_by false is set =
-      f.queued_trim (ap (λ n. n / 2 ^ 6 % 2 == 1) (sym (others 77 (λ e. let no : (place == 77) ≡ true = eq-eqb place 77 (sym e) in absurd cc) (λ e. omega (arith, e)) (omega arith))) ∙ set)
+  same_trim : has_trim new ≡ has_trim set_so
+  same_trim = rw (same 169 (λ e. omega arith) (omega arith), same 69 (λ e. omega arith) (omega arith)) refl
 
-  pub reworded_fits : IsFit (state_of (with_word place value d))
-  reworded_fits =
-      let a = not_in place 69 (82 ∷ 100 ∷ 101 ∷ 102 ∷ 103 ∷ 105 ∷ 169 ∷ []) may.other in
-      let b = not_in place 82 (100 ∷ 101 ∷ 102 ∷ 103 ∷ 105 ∷ 169 ∷ []) a.1 in
-      let e = not_in place 100 (101 ∷ 102 ∷ 103 ∷ 105 ∷ 169 ∷ []) b.1 in
-      let g = not_in place 101 (102 ∷ 103 ∷ 105 ∷ 169 ∷ []) e.1 in
-      let h = not_in place 102 (103 ∷ 105 ∷ 169 ∷ []) g.1 in
-      let i = not_in place 103 (105 ∷ 169 ∷ []) h.1 in
-      let j = not_in place 105 (169 ∷ []) i.1 in
-      let k = not_in place 169 [] j.1 in
-      let trims : has_trim new ≡ has_trim d.identify = rw (others 169 k.0 (λ e. omega (arith, e)) (omega arith), others 69 a.0 (λ e. omega (arith, e)) (omega arith)) refl in
+  same_blocks : trim_blocks new ≡ trim_blocks set_so
+  same_blocks = same 105 (λ e. omega arith) (omega arith)
+
+  same_queued : word_bit 77 6 new ≡ word_bit 77 6 set_so
+  same_queued = ap (λ n. n / 2 ^ 6 % 2 == 1) (same 77 (λ e. omega arith) (omega arith))
+
+  fits_if : value < 2 ^ 16 → MayReword place value d → IsFit (state_of d) → IsFit (state_of (with_word place value d))
+  fits_if wide may f =
+      let told = reworded_told place d.cache d.look set_so (set_word-length (word_is place value) d.identify ∙ f.size) in
       record {
         sectors = f.sectors;
-        told = rw (others 100 e.0 (λ e. omega (arith, e)) (omega arith), others 101 g.0 (λ e. omega (arith, e)) (omega arith), others 102 h.0 (λ e. omega (arith, e)) (omega arith), others 103 i.0 (λ e. omega (arith, e)) (omega arith)) f.told;
-        cache = told_now.cache;
-        look = told_now.look;
-        cache_told = told_now.cache_told;
-        look_told = told_now.look_told;
-        trim = λ has. let same = others 105 j.0 (λ e. omega (arith, e)) (omega arith) in omega (arith, same, f.trim (sym trims ∙ has));
-        queued_trim = λ set. trims ∙ queued_by (place == 77) refl set;
-        size = told_now.size;
+        told = same_capacity ∙ may.told;
+        cache = told.cache;
+        look = told.look;
+        cache_told = told.cache_told;
+        look_told = told.look_told;
+        trim = λ has. let blocks = may.trim (sym same_trim ∙ has) in omega (arith, same_blocks, blocks);
+        queued_trim = λ set. same_trim ∙ may.queued_trim (sym same_queued ∙ set);
+        size = told.size;
         bytes = kept_bytes place (with_settings set_so cache_on look_on) (all_set set_so 170 (settings_byte (slice_index set_so 170) cache_on look_on) (byte_small (slice_index set_so 170) cache_on look_on) (set_word_bytes (word_is place value) d.identify wide f.bytes));
       }
+
+  fits_only_if : IsFit (state_of (with_word place value d)) → MayReword place value d
+  fits_only_if f = record {
+    told = sym same_capacity ∙ f.told;
+    trim = λ has. let blocks = f.trim (same_trim ∙ has) in omega (arith, same_blocks, blocks);
+    queued_trim = λ set. sym same_trim ∙ f.queued_trim (same_queued ∙ set);
+  }
+
+  pub reworded_fits : (e : Disk) → e ≡ with_word place value d → value < 2 ^ 16 → MayReword place value d → IsFit (state_of d) → IsFit (state_of e)
+  reworded_fits e is wide may f = subst (λ (x : Disk). IsFit (state_of x)) (sym is) (fits_if wide may f)
+
+  pub may_reworded : (e : Disk) → e ≡ with_word place value d → IsFit (state_of e) → MayReword place value d
+  may_reworded e is f = fits_only_if (subst (λ (x : Disk). IsFit (state_of x)) is f)
+
+  -- the words as they stand then
+  pub word_now : (e : Disk) → e ≡ with_word place value d → (i : ℕ) → (i ≡ 85 → ⊥) → i < 255 → word i e.identify ≡ word i set_so
+  word_now e is i not_85 low = ap (λ (x : Disk). word i x.identify) is ∙ same i not_85 low

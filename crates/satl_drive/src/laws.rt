@@ -13,7 +13,7 @@ ghost use Rattle.satl_regs.specs.declared.values.Registers.{Registers};
 ghost use Rattle.satl_regs.specs.Commands.{command_in};
 ghost use Rattle.satl_errlog.specs.declared.entry.NcqError.{NcqError};
 ghost use Rattle.satl_drive.specs.declared.drive.Report.TheVariants as reports;
-ghost use Rattle.satl_drive.specs.Bench.{IsPowerCycled, IsStruck, IsUnplugged};
+ghost use Rattle.satl_drive.specs.Bench.{IsOrdered, IsPowerCycled, IsStruck, IsUnplugged};
 ghost use Rattle.satl_drive.specs.Queue.{CanIssue, CanPoll, IsIssueCutOff, IsIssued, IsPollCutOff, IsPolled, IsReset, IsResetCutOff, Slots, is_tagged, queued_pairs};
 ghost use Rattle.satl_drive.specs.Rules.{CanRun, IsRunCutOff};
 ghost use Rattle.satl_drive.specs.State.{DriveState, IsFit, Outstanding};
@@ -101,6 +101,12 @@ pub fn a_lost_link_is_counted()
 pub fn an_unplug_counts_one()
     ensures { (old new : DriveState) → old.unplugs < 2 ^ 64 - 1 → IsUnplugged old new →
         (new.unplugs ≡ old.unplugs + 1) × (new.down ≡ true) × (new.outstanding ≡ []) }
+{}
+
+/// Law of orders: they are counted one by one, and nothing else changes (profile).
+pub fn an_order_counts_one()
+    ensures { (old new : DriveState) → old.orders < 2 ^ 64 - 1 → IsOrdered old new →
+        new ≡ record old { orders = old.orders + 1 } }
 {}
 
 /// Law of strikes: outside the capacity a strike changes nothing (profile).

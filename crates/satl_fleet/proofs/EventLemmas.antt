@@ -76,6 +76,7 @@ module _ (l mid : Layer) (d : DriveState) (same : record mid { free = 0; out = 0
     covered = x.covered;
     faults = subst (λ s. RoseBy (losses_in event s (device_of new)) d.faults new.drive.faults) device_lent x.faults;
     unplugs = x.unplugs;
+    orders = x.orders;
     queue = x.queue;
   }
 
@@ -89,6 +90,7 @@ module _ (l mid : Layer) (d : DriveState) (same : record mid { free = 0; out = 0
       does = subst (λ s. DoesInPart event s u.answers (device_of new)) device_lent u.did.does;
       faults = subst (λ s. RoseBy (losses_in event s (device_of new)) d.faults new.drive.faults) device_lent u.did.faults;
       unplugs = u.did.unplugs;
+      orders = u.did.orders;
       queue = u.did.queue;
     };
     part = u.part;

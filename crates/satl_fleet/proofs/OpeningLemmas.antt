@@ -19,10 +19,10 @@ use Rattle.satl_fleet.proofs.SpotLemmas.{all_at, some_at}
 -- ---- one drive
 
 pub opened_alone : (old new : DriveState) (l : Layer) → Opens old l new → IsLeftAlone old new
-opened_alone old new l o = record { undisturbed = written_back o.opened.lost o.opened.stays; nows = o.nows; unplugs = ap (λ (d : DriveState). d.unplugs) o.opened.stays }
+opened_alone old new l o = record { undisturbed = written_back o.opened.lost o.opened.stays; nows = o.nows; unplugs = ap (λ (d : DriveState). d.unplugs) o.opened.stays; orders = ap (λ (d : DriveState). d.orders) o.opened.stays }
 
 same_alone : (d : DriveState) → IsLeftAlone d d
-same_alone d = record { undisturbed = untouched refl; nows = refl; unplugs = refl }
+same_alone d = record { undisturbed = untouched refl; nows = refl; unplugs = refl; orders = refl }
 
 pub all_same : (ds : List DriveState) → AllZip IsLeftAlone ds ds
 all_same [] = tt

@@ -11,10 +11,10 @@ use Rattle.satl_drive.specs.State.{DriveState}
 use Rattle.satl_direct.specs.Run.{losses_in}
 use Rattle.satl_direct.specs.Run.RunDeep.{start, next_event}
 use Rattle.satl_direct.proofs.Quieting.{quiet_none}
-use Rattle.satl_step.specs.Events.{unplugs_behind}
-use Rattle.satl_step.specs.Runs.{KeepsDeepest, tally_of, unplugs_in}
+use Rattle.satl_step.specs.Events.{orders_behind, unplugs_behind}
+use Rattle.satl_step.specs.Runs.{KeepsDeepest, is_order, is_unplug, tally_of}
 use Rattle.satl_direct.specs.Run.RunInPart.{one_event_more}
-use Rattle.satl_step.proofs.RunLemmas.{Unplugs, unplugs_one, unplugs_pushed}
+use Rattle.satl_step.proofs.RunLemmas.{Counts, counts_more, orders_one, unplugs_one}
 use Rattle.satl_fleet.specs.Output.{NoAnswersBehind, Round, frames_of, group_of, groups_for}
 use Rattle.satl_fleet.specs.Rounds.{EachDid, Stops, round_of, silence}
 use Rattle.satl_fleet.specs.Rounds.EachDid.{none as no_unit, passes as unit_passes, serves as unit_serves}
@@ -27,14 +27,16 @@ use Rattle.satl_fleet.proofs.RoundLemmas.{silent_at}
 
 -- ---- one unit
 
-counted_more : (events : List Frame) (losses lost : ℕ) (old mid new : DriveState) (event : Frame) → UnitCounted events losses old mid → RoseBy lost mid.faults new.faults → new.unplugs ≡ unplugs_behind event mid.unplugs → KeepsDeepest (tally_of mid 0) (tally_of new 0) → UnitCounted (events ++ event ∷ []) (losses + lost) old new
-counted_more events losses lost old mid new event counted faults unplugged queue =
-    let u = subst (Unplugs event mid.unplugs) (sym unplugged) (unplugs_one event mid.unplugs) in
-    let pushed = unplugs_pushed events event in
+counted_more : (events : List Frame) (losses lost : ℕ) (old mid new : DriveState) (event : Frame) → UnitCounted events losses old mid → RoseBy lost mid.faults new.faults → new.unplugs ≡ unplugs_behind event mid.unplugs → new.orders ≡ orders_behind event mid.orders → KeepsDeepest (tally_of mid 0) (tally_of new 0) → UnitCounted (events ++ event ∷ []) (losses + lost) old new
+counted_more events losses lost old mid new event counted faults unplugged ordered queue =
+    let u = counts_more is_unplug events event old.unplugs mid.unplugs new.unplugs (record { rose = counted.unplugged; few = counted.few_unplugs }) (subst (Counts is_unplug (event ∷ []) mid.unplugs) (sym unplugged) (unplugs_one event mid.unplugs)) in
+    let o = counts_more is_order events event old.orders mid.orders new.orders (record { rose = counted.ordered; few = counted.few_orders }) (subst (Counts is_order (event ∷ []) mid.orders) (sym ordered) (orders_one event mid.orders)) in
     record {
       faults = RoseBy-more losses lost old.faults mid.faults new.faults counted.faults faults;
-      unplugged = subst (λ n. RoseBy n old.unplugs new.unplugs) (sym pushed) (RoseBy-more (unplugs_in events) (unplugs_in (event ∷ [])) old.unplugs mid.unplugs new.unplugs counted.unplugged u.rose);
-      few_unplugs = omega (arith, counted.few_unplugs, u.few, pushed);
+      unplugged = u.rose;
+      few_unplugs = u.few;
+      ordered = o.rose;
+      few_orders = o.few;
       rises = omega (arith, counted.rises, queue.rises);
       covers = queue.covers counted.covers;
     }
@@ -46,14 +48,14 @@ module _ (first : UnitStand) (events : List Frame) (groups : List (List Answer))
     deep = max r.deep did.deep;
     run = next_event event answers did.deep r.run did.does;
     deepest = omega (arith, r.deepest, did.queue.rises, did.covered r.counted.covers);
-    counted = counted_more events r.losses (losses_in event (device_of s) (device_of new)) first.drive s.drive new.drive event r.counted did.faults did.unplugs did.queue;
+    counted = counted_more events r.losses (losses_in event (device_of s) (device_of new)) first.drive s.drive new.drive event r.counted did.faults did.unplugs did.orders did.queue;
   }
 
   ran_in_part : DidInPart event s answers new → UnitRanInPart first (events ++ event ∷ []) (groups ++ answers ∷ []) (unit_stand_of new)
   ran_in_part did = record {
     losses = r.losses + losses_in event (device_of s) (device_of new);
     run = one_event_more event answers r.run did.does;
-    counted = counted_more events r.losses (losses_in event (device_of s) (device_of new)) first.drive s.drive new.drive event r.counted did.faults did.unplugs did.queue;
+    counted = counted_more events r.losses (losses_in event (device_of s) (device_of new)) first.drive s.drive new.drive event r.counted did.faults did.unplugs did.orders did.queue;
   }
 
 -- ---- a round more
@@ -161,7 +163,7 @@ run_none units k (s ∷ ss) idle = (
     deep = 0;
     run = start (quiet_none (device_of s));
     deepest = omega arith;
-    counted = record { faults = RoseBy-none s.drive.faults; unplugged = RoseBy-none s.drive.unplugs; few_unplugs = omega arith; rises = omega arith; covers = idle.0.covers };
+    counted = record { faults = RoseBy-none s.drive.faults; unplugged = RoseBy-none s.drive.unplugs; few_unplugs = omega arith; ordered = RoseBy-none s.drive.orders; few_orders = omega arith; rises = omega arith; covers = idle.0.covers };
   },
   run_none units (suc k) ss idle.1,
 )

@@ -57,7 +57,7 @@ module _ (l l' : Layer) (d d' : DriveState) (calls calls' : ℕ) (event whole : 
   did : (answers : List Answer) → IsTallied event (stand_of l d calls) (stand_of l' d' calls') → Carried event (stand_of l d calls) answers (stand_of l' d' calls') → Did whole (unit_state l d) answers (unit_state l' d')
   did answers tallied carried =
       let t = tallied_whole is.room (stand_of l d calls) (stand_of l' d' calls') event whole is.cut tallied in
-      record { deep = carried.deep; does = carried.does whole is; covered = carried.covered; faults = t.faults; unplugs = t.unplugs; queue = record { rises = t.queue.rises; covers = t.queue.covers } }
+      record { deep = carried.deep; does = carried.does whole is; covered = carried.covered; faults = t.faults; unplugs = t.unplugs; orders = t.orders; queue = record { rises = t.queue.rises; covers = t.queue.covers } }
 
   does_part : (answers : List Answer) → Carried event (stand_of l d calls) answers (stand_of l' d' calls') ⊎ DoesShort event (device_of (unit_state l d)) answers (device_of (unit_state l' d')) → DoesInPart whole (device_of (unit_state l d)) answers (device_of (unit_state l' d'))
   does_part answers (inl carried) = does_all carried.deep (carried.does whole is)
@@ -66,7 +66,7 @@ module _ (l l' : Layer) (d d' : DriveState) (calls calls' : ℕ) (event whole : 
   did_in_part : (answers : List Answer) → IsTallied event (stand_of l d calls) (stand_of l' d' calls') → Carried event (stand_of l d calls) answers (stand_of l' d' calls') ⊎ DoesShort event (device_of (unit_state l d)) answers (device_of (unit_state l' d')) → DidInPart whole (unit_state l d) answers (unit_state l' d')
   did_in_part answers tallied done =
       let t = tallied_whole is.room (stand_of l d calls) (stand_of l' d' calls') event whole is.cut tallied in
-      record { does = does_part answers done; faults = t.faults; unplugs = t.unplugs; queue = record { rises = t.queue.rises; covers = t.queue.covers } }
+      record { does = does_part answers done; faults = t.faults; unplugs = t.unplugs; orders = t.orders; queue = record { rises = t.queue.rises; covers = t.queue.covers } }
 
   module _ (k : ℕ) (first last : UnitTeller) (fresh : first ≡ record { unit = k; named = false }) (written written' : Option (List ℕ)) where
     pub unit_did : Done by behind event (scene_of l d calls first written) (scene_of l' d' calls' last written') → UnitDid k whole (unit_state l d) (unit_state l' d') written written'

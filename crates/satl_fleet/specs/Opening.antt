@@ -8,11 +8,13 @@ use Rattle.satl_core.specs.Tie.{TiesQueue}
 use Rattle.satl_core.specs.declared.satl.OpenFault.{OpenFault}
 
 -- a drive was at most asked for its IDENTIFY DEVICE data: it stays as it was, but for entries that its sectors may be left
--- with, and, where its link was lost meanwhile, for what that does; each sector reads as before; it was not unplugged (profile)
+-- with, and, where its link was lost meanwhile, for what that does; each sector reads as before; it was not unplugged, and no
+-- order bytes were handed in to it (profile)
 pub record IsLeftAlone (old new : DriveState) : Type 0 where
   pub undisturbed : IsUndisturbed old new
   pub nows : map (λ c. c.now) new.cells ≡ map (λ c. c.now) old.cells
   pub unplugs : new.unplugs ≡ old.unplugs
+  pub orders : new.orders ≡ old.orders
 
 -- a layer was opened on a drive (profile)
 pub record Opens (old : DriveState) (l : Layer) (new : DriveState) : Type 0 where

@@ -10,7 +10,7 @@ use Rattle.satl_direct.specs.Device.{Device}
 use Rattle.satl_direct.specs.Run.{Does, DoesInPart, losses_in}
 use Rattle.satl_core.specs.Layer.{Layer, Tied, view}
 use Rattle.satl_core.specs.Tie.{TiesQueue}
-use Rattle.satl_step.specs.Events.{unplugs_behind}
+use Rattle.satl_step.specs.Events.{orders_behind, unplugs_behind}
 use Rattle.satl_step.specs.Runs.{IsDeep, KeepsDeepest, tally_of}
 use Rattle.satl_fleet.specs.Output.{told_under}
 
@@ -45,13 +45,15 @@ abbrev pub pending : List UnitState → ℕ
 pending units = sum_by (λ s. length s.layer.tasks) units
 
 -- a unit did an event, with these answers, and its drive was counted: the drive had at once as many commands as the device let
--- it have, its faults rose by the losses, it was unplugged by the event alone, and its deepest queue did not fall (profile)
+-- it have, its faults rose by the losses, it was unplugged, and order bytes were handed in to it, by the event alone, and its
+-- deepest queue did not fall (profile)
 pub record Did (event : Frame) (old : UnitState) (answers : List Answer) (new : UnitState) : Type 0 where
   pub deep : ℕ
   pub does : Does event (device_of old) answers (device_of new) deep
   pub covered : IsDeep (tally_of old.drive 0) → deep ≤ new.drive.deepest
   pub faults : RoseBy (losses_in event (device_of old) (device_of new)) old.drive.faults new.drive.faults
   pub unplugs : new.drive.unplugs ≡ unplugs_behind event old.drive.unplugs
+  pub orders : new.drive.orders ≡ orders_behind event old.drive.orders
   pub queue : KeepsDeepest (tally_of old.drive 0) (tally_of new.drive 0)
 
 -- a unit did an event, or it was cut short behind one of its turns (profile)
@@ -59,6 +61,7 @@ pub record DidInPart (event : Frame) (old : UnitState) (answers : List Answer) (
   pub does : DoesInPart event (device_of old) answers (device_of new)
   pub faults : RoseBy (losses_in event (device_of old) (device_of new)) old.drive.faults new.drive.faults
   pub unplugs : new.drive.unplugs ≡ unplugs_behind event old.drive.unplugs
+  pub orders : new.drive.orders ≡ orders_behind event old.drive.orders
   pub queue : KeepsDeepest (tally_of old.drive 0) (tally_of new.drive 0)
 
 -- a unit of this number did an event, and its answers were told (profile)

@@ -21,6 +21,9 @@ use std::alloc::Global;
 use std::marker::Model;
 use std::sync::ledger::Ledger;
 
+/// How many pages lie beside the slots: as many as a READ of 4 KiB fills.
+const RECENT_PAGES: u32 = 8;
+
 /// The task set, what is outstanding of it, and the slots of the tags. Clauses see each task with its pages, wherever these
 /// lie (ACS-3, native command queuing; profile).
 #[derive(Drop)]
@@ -48,7 +51,7 @@ impl Queue {
         Ok(Queue {
             set: TaskSet::new(alloc)?,
             flight: Flight::new(alloc)?,
-            dma: Dma::new(),
+            dma: Dma::keeping(Pages::zeroed(alloc, RECENT_PAGES)?),
         })
     }
 
@@ -242,6 +245,15 @@ impl Queue {
         // It tells that no other task has the slot.
         let _alone = self.set.slot_of(place);
         self.set.remove(place, task);
+    }
+
+    /// Gives as many pages as it takes, with whatever they hold: others, where it keeps as many (profile).
+    // Who hands in the pages of each reply that was told has the next READ filled into these.
+    pub fn exchange(&mut self, pages: Pages) -> Pages
+        ensures as_many { length result ≡ length pages }
+        ensures same { self.new ≡ self.old }
+    {
+        self.dma.exchange(pages)
     }
 
     /// Forgets all that is outstanding, where the drive has let go of it (profile).

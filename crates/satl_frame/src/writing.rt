@@ -190,7 +190,8 @@ fn write_parts<K: Sink>(sink: &mut K, buffer: &mut WriteBuffer, reply: &Reply) -
 }
 
 /// Appends exactly the bytes of a reply's frame, as `write_frame` does, for who writes many and keeps a buffer for them: no
-/// memory is cleared for a reply then. What waited in the buffer is dropped (profile).
+/// memory is cleared for a reply then. What the buffer holds before does not matter, and nothing is told of what it holds
+/// afterwards (profile).
 pub fn write_reply<K: Sink>(
     reply: &Reply,
     buffer: &mut WriteBuffer,
@@ -218,7 +219,7 @@ fn write_alone<K: Sink>(reply: &Reply, sink: &mut K) -> Result<(), WriteFault>
 
 /// Appends exactly the bytes of the frame to those of the sink (profile). A reply with an `expected` goes out as one of
 /// version 2, with its data cut to that many bytes. After a fault some front of the bytes was appended. No clause counts the
-/// write calls: a reply with up to 4 KiB of data takes one or two where the sink takes all that it is given.
+/// write calls: a reply with up to 4 KiB of data takes one where the sink takes all that it is given.
 pub fn write_frame<K: Sink>(frame: OutFrame, sink: &mut K) -> Result<(), WriteFault>
     requires { CanWrite frame }
     ensures all { OnOk result (Wrote (K.written sink.old) (K.written sink.new) (written_bytes frame.entry)) }

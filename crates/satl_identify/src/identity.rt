@@ -11,7 +11,7 @@ pub struct Identity {
     pub exponent: u8,
     /// DATA SET MANAGEMENT trims, and trimmed sectors read as zeros (word 169, bit 0; word 69, bits 14 and 5).
     pub trim: bool,
-    /// Trims may be queued: there is SEND FPDMA QUEUED (word 77, bit 6).
+    /// It trims, and trims may be queued: there is SEND FPDMA QUEUED (word 77, bit 6).
     pub queued_trim: bool,
     /// There is a volatile write cache (word 82, bit 5).
     pub cache: bool,

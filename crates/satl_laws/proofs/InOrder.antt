@@ -1,7 +1,8 @@
 -- A device whose tasks end out of order, and what it has answered, as if each WRITE had acted, or not, on arrival.
-use Rattle.std.proofs.Common.{◌≡◌, ℕ, ◌+◌, ◌≤◌, ◌<◌, Bool, true, false, List, map, length}
+use Rattle.std.proofs.Common.{◌≡◌, ℕ, ◌+◌, ◌≤◌, ◌<◌, Bool, true, false, List, None, map, length}
 use Rattle.std.specs.List.{AllByRecursion}
 use Rattle.satl_base.specs.declared.block.Block.{Block}
+use Rattle.satl_base.specs.declared.request.Request.{Request}
 use Rattle.satl_base.specs.Cells.{Cell}
 use Rattle.satl_base.specs.Lists.{how_many}
 use Rattle.satl_frame.specs.declared.frames.Frame.{Frame}
@@ -15,18 +16,23 @@ use Rattle.satl_laws.proofs.Items.{AreSorted, IsWell, Item, held, waiting}
 use Rattle.satl_laws.proofs.Requests.{requests_of}
 use Rattle.satl_laws.proofs.Standing.{Stands}
 
-module _ (first : Device) where
+-- the device that a run begins with, and which requests may become tasks in it
+pub record Begin : Type 0 where
+  pub device : Device
+  pub waits : Request → Bool
+
+module _ (first : Begin) where
   -- how many sectors there are
   abbrev pub sectors : ℕ
-  sectors = length first.cells
+  sectors = length first.device.cells
 
   -- whether the drive trims
   abbrev pub trim : Bool
-  trim = first.identity.trim
+  trim = first.device.identity.trim
 
   -- what a sector holds by these requests
   abbrev pub holds : List Item → ℕ → Block
-  holds items x = held trim x (read_at first.cells x) items
+  holds items x = held trim x (read_at first.device.cells x) items
 
   -- one that was answered with GOOD has acted
   abbrev pub IsSure : List Answer → Item → Type 0
@@ -35,6 +41,10 @@ module _ (first : Device) where
   -- and no other
   abbrev pub IsOnly : List Answer → Item → Type 0
   IsOnly answers i = (x : ℕ) → i.acted x ≡ true → was_done answers i.request ≡ true
+
+  -- one that may not become a task does not wait, and has acted only where it was answered with GOOD
+  abbrev pub IsAside : List Answer → Item → Type 0
+  IsAside answers i = first.waits i.request ≡ false → (i.task ≡ None) × IsOnly answers i
 
   -- the cells and tasks of the device after some events and answers; where it is faithful, each WRITE that has acted was
   -- answered with GOOD
@@ -50,7 +60,8 @@ module _ (first : Device) where
     pub stands : (x : ℕ) → x < sectors → Stands x (read_at cells x) (holds items x) tasks
     pub sure : AllByRecursion (IsSure answers) items
     pub only : faithful ≡ true → AllByRecursion (IsOnly answers) items
-    pub right : AllRight trim answers (read_at first.cells) (λ x. false) items
+    pub aside : AllByRecursion (IsAside answers) items
+    pub right : AllRight trim answers (read_at first.device.cells) (λ x. false) items
 
   -- other cells that stand as well
   pub cells_in_order : (events : List Frame) (answers : List Answer) (cells new : List Cell) (tasks : List Entry) (faithful : Bool) (o : InOrder events answers cells tasks faithful)
@@ -66,5 +77,6 @@ module _ (first : Device) where
     stands = stands;
     sure = o.sure;
     only = o.only;
+    aside = o.aside;
     right = o.right;
   }

@@ -17,7 +17,6 @@ use Rattle.satl_frame.specs.declared.frames.Frame.TheVariants as frames
 use Rattle.satl_frame.specs.Output.{Answer}
 use Rattle.satl_frame.specs.Output.Answer.{replied}
 use Rattle.satl_line.specs.declared.entry.Entry.{Entry}
-use Rattle.satl_direct.specs.Device.{Device}
 use Rattle.satl_laws.specs.ArrivalOrder.{IsGoodReply, IsReadOf, brought, is_done, is_good, read_at, was_done}
 use Rattle.satl_laws.specs.OnceEach.{answers_to, asks_by}
 use Rattle.satl_laws.proofs.Arrivals.{IsTo}
@@ -25,7 +24,7 @@ use Rattle.satl_laws.proofs.Bringing.{Answers}
 use Rattle.satl_laws.proofs.Cases.{how_many-append}
 use Rattle.satl_laws.proofs.Weighing.{weigh}
 use Rattle.satl_laws.proofs.Given.{GivesRight, IsTold, right_on, right_push}
-use Rattle.satl_laws.proofs.InOrder.{InOrder, IsOnly, IsSure, holds, sectors, trim}
+use Rattle.satl_laws.proofs.InOrder.{Begin, InOrder, IsAside, IsOnly, IsSure, holds, sectors, trim}
 use Rattle.satl_laws.proofs.Items.{IsWell, Item, held-append, left, waiting, waiting-append}
 use Rattle.satl_laws.proofs.Names.{none_done, none_in, one_reply}
 use Rattle.satl_laws.proofs.Requests.{asked_as_often, has_name, how_many-map, none_pass, requests-append, requests_of}
@@ -35,7 +34,7 @@ use Rattle.satl_laws.proofs.Settling.{pending, sorted_push}
 use Rattle.satl_laws.proofs.Standing.{Stands}
 use Rattle.satl_laws.proofs.Tasks.{done_good, good_done, reply_named, reply_other}
 
-module _ (first : Device) where
+module _ (first : Begin) where
   module _ (events : List Frame) (answers : List Answer) (cells : List Cell) (tasks : List Entry) (faithful : Bool) (r : Request) (o : InOrder first events answers cells tasks faithful)
       (unasked : how_many (asks_by r.nexus (r.tag).0) events ≡ 0) where
     -- a request has another nexus or tag
@@ -71,11 +70,13 @@ module _ (first : Device) where
           omega (arith, o.counts nexus tag, named, how_many-append (answers_to nexus tag) answers (replied reply ∷ []), how_many-append (asks_by nexus tag) events (frames.Request r ∷ []));
       well = All-push_end (IsWell (trim first) (sectors first)) o.items mine o.well (record { waits = tt });
       sorted = λ x inside. sorted_push (trim first) x o.items mine (idle x) (o.sorted x inside);
-      stands = λ x inside. subst (λ h. Stands x (read_at cells x) h tasks) (sym (held-append (trim first) x (read_at first.cells x) o.items (mine ∷ []) ∙ idle x (holds first o.items x))) (o.stands x inside);
+      stands = λ x inside. subst (λ h. Stands x (read_at cells x) h tasks) (sym (held-append (trim first) x (read_at first.device.cells x) o.items (mine ∷ []) ∙ idle x (holds first o.items x))) (o.stands x inside);
       sure = All-push_end (IsSure first now) o.items mine (all_from IsOther (IsSure first answers) (IsSure first now) sure_other o.items apart o.sure) (λ h x. done_good r reply (sym its_own ∙ h));
       only = λ f. All-push_end (IsOnly first now) o.items mine (all_from IsOther (IsOnly first answers) (IsOnly first now) only_other o.items apart (o.only f)) (λ x good. its_own ∙ good_done r reply (reply_named r reply to.nexus to.tag) good);
-      right = right_push (trim first) now o.items mine (read_at first.cells) (λ x. false) mine_right
-          (right_on (trim first) answers now o.items (read_at first.cells) (read_at first.cells) (λ x. false) (λ x. false) (λ x h. (refl, h)) (All-weaken IsOther (IsTold (trim first) answers now) told_other o.items apart) o.right);
+      aside = All-push_end (IsAside first now) o.items mine (all_from IsOther (IsAside first answers) (IsAside first now) aside_other o.items apart o.aside)
+          (λ no. (refl, λ x good. its_own ∙ good_done r reply (reply_named r reply to.nexus to.tag) good));
+      right = right_push (trim first) now o.items mine (read_at first.device.cells) (λ x. false) mine_right
+          (right_on (trim first) answers now o.items (read_at first.device.cells) (read_at first.device.cells) (λ x. false) (λ x. false) (λ x h. (refl, h)) (All-weaken IsOther (IsTold (trim first) answers now) told_other o.items apart) o.right);
     }
       where
         now : List Answer
@@ -102,6 +103,9 @@ module _ (first : Device) where
 
         only_other : (k : Item) → IsOther k → IsOnly first answers k → IsOnly first now k
         only_other k apart_k only x h = now_done k.request ∙ ap (λ b. b || (is_done k.request (replied reply) || false)) (only x h)
+
+        aside_other : (k : Item) → IsOther k → IsAside first answers k → IsAside first now k
+        aside_other k apart_k aside never = let a = aside never in (a.0, only_other k apart_k a.1)
 
         told_other : (k : Item) → IsOther k → IsTold (trim first) answers now k
         told_other k apart_k q g =

@@ -18,11 +18,11 @@ use Rattle.satl_laws.specs.ArrivalOrder.{is_done}
 use Rattle.satl_laws.specs.OnceEach.{asks_by}
 use Rattle.satl_direct.specs.Senses.{link_lost}
 use Rattle.satl_direct.specs.Turn.{device_lost_replies}
-use Rattle.satl_laws.proofs.InOrder.{InOrder}
+use Rattle.satl_laws.proofs.InOrder.{Begin, InOrder}
 use Rattle.satl_laws.proofs.InOrderPlace.{dropped_in_order}
 use Rattle.satl_laws.proofs.InOrderSteps.{AreSteady, InOrderAt, lowered, not_both}
 
-module _ (first : Device) (exact : Bool) where
+module _ (first : Begin) (exact : Bool) where
   module _ (events : List Frame) (cells : List Cell) (once : (nexus tag : ℕ) → how_many (asks_by nexus tag) events < 2) where
     -- all are answered that the link is lost
     pub lost_in_order : (s : Device) (answers : List Answer) (tasks : List Entry) (f : Bool) → InOrder first events answers cells tasks f

@@ -13,17 +13,17 @@ use Rattle.satl_frame.specs.Output.{Answer}
 use Rattle.satl_direct.specs.Device.{Device}
 use Rattle.satl_laws.specs.ArrivalOrder.{IsGoodReply, read_at, was_done}
 use Rattle.satl_laws.specs.OnceEach.{asks_by}
-use Rattle.satl_laws.proofs.InOrder.{InOrder, holds, trim}
+use Rattle.satl_laws.proofs.InOrder.{Begin, InOrder, holds, trim}
 use Rattle.satl_laws.proofs.Names.{asks_self}
 use Rattle.satl_laws.proofs.Items.{Item}
 use Rattle.std.proofs.lemmas.Option.{slice_get_within}
 use Rattle.satl_base.proofs.ListsLemmas.{All-in}
 use Rattle.satl_laws.specs.ArrivalOrder.{IsInOrder, IsReadOf, content}
-use Rattle.satl_laws.proofs.InOrder.{IsOnly, IsSure}
+use Rattle.satl_laws.proofs.InOrder.{IsAside, IsOnly, IsSure}
 use Rattle.satl_laws.proofs.Rows.{all_at, all_front, in_all}
 use Rattle.satl_laws.proofs.Eligibles.{split_at}
 use Rattle.satl_laws.proofs.Requests.{AreApart, are_apart, asked_as_often, content_held, has_name, how_many-map, placed_at, requests-append, requests_of}
-use Rattle.satl_laws.proofs.Seen.{range_same, seen_get}
+use Rattle.satl_laws.proofs.Seen.{by_test, range_same, seen_get}
 use Rattle.satl_laws.proofs.Given.{AllRight, right_at}
 
 -- ---- the sectors and answers of a device without tasks
@@ -51,26 +51,26 @@ acts_itself front back i x apart =
     ∙ ap (λ b. i.acted x || b) (none_acts back x i.request apart.backs)
     ∙ or-false (i.acted x)
 
-module _ (first last : Device) (events : List Frame) (answers : List Answer) (f : Bool) (o : InOrder first events answers last.cells [] f) where
+module _ (first : Begin) (last : Device) (events : List Frame) (answers : List Answer) (f : Bool) (o : InOrder first events answers last.cells [] f) where
   -- each item acts as this says
   abbrev ActAs : (ℕ → Request → Bool) → Type 0
   ActAs acted = (x : ℕ) → AllByRecursion (λ i. acted x i.request ≡ i.acted x) o.items
 
   -- then all is in order
-  pub in_order_as : (acted : ℕ → Request → Bool) → ActAs acted → (all : List Frame) → requests_of all ≡ requests_of events → IsInOrder acted first all answers last
+  pub in_order_as : (acted : ℕ → Request → Bool) → ActAs acted → (all : List Frame) → requests_of all ≡ requests_of events → IsInOrder acted first.device all answers last
   in_order_as acted acts all same = record {
     reads = λ before after r reply lba count place reads good.
         let k = placed_at o.items (requests_of before) r (requests_of after) (o.requests ∙ sym same ∙ ap requests_of place ∙ requests-append before (frames.Request r ∷ after)) in
-        let right = right_at (trim first) answers k.front k.back k.item (read_at first.cells) (λ x. false) (subst (AllRight (trim first) answers (read_at first.cells) (λ x. false)) k.split o.right) in
+        let right = right_at (trim first) answers k.front k.back k.item (read_at first.device.cells) (λ x. false) (subst (AllRight (trim first) answers (read_at first.device.cells) (λ x. false)) k.split o.right) in
         let g = right reply lba count (subst (λ q. IsReadOf (says q.cdb (trim first)) lba count) (sym k.is) reads) (subst (λ q. IsGoodReply q reply answers) (sym k.is) good) in
         g.blocks
-        ∙ range_same count lba (holds first k.front) (λ x. content (acted x) (trim first) x before (read_at first.cells x))
-        (λ x from to. sym (content_held (trim first) x (acted x) before k.front (read_at first.cells x) k.fronts
+        ∙ range_same count lba (holds first k.front) (λ x. content (acted x) (trim first) x before (read_at first.device.cells x))
+        (λ x from to. sym (content_held (trim first) x (acted x) before k.front (read_at first.device.cells x) k.fronts
         (all_front (λ i. acted x i.request ≡ i.acted x) k.front k.back k.item (subst (AllByRecursion (λ i. acted x i.request ≡ i.acted x)) k.split (acts x)))));
     writes = λ x c there.
         seen_get last.cells x c there
         ∙ ⊎_elim (λ is. is) (λ early. absurd early.eligible) (o.stands x (omega (arith, slice_get_within last.cells x c there, o.size)))
-        ∙ sym (content_held (trim first) x (acted x) all o.items (read_at first.cells x) (o.requests ∙ sym same) (acts x));
+        ∙ sym (content_held (trim first) x (acted x) all o.items (read_at first.device.cells x) (o.requests ∙ sym same) (acts x));
   }
 
   -- each acts as its item
@@ -91,6 +91,16 @@ module _ (first last : Device) (events : List Frame) (answers : List Answer) (f 
       ap (acted_by o.items x) (sym k.is)
       ∙ all_at (λ i. acted_by o.items x i.request ≡ i.acted x) k.front k.back k.item (subst (AllByRecursion (λ i. acted_by o.items x i.request ≡ i.acted x)) k.split (act_as_items once x))
       ∙ all_at (IsSure first answers) k.front k.back k.item (subst (AllByRecursion (IsSure first answers)) k.split o.sure) (ap (was_done answers) k.is ∙ done) x
+
+  -- one that may not become a task, and was not answered with GOOD, has not
+  pub aside_stays : ((nexus tag : ℕ) → how_many (asks_by nexus tag) events < 2) → (x : ℕ) (r : Request) → IsIn (frames.Request r) events → first.waits r ≡ false → was_done answers r ≡ false → acted_by o.items x r ≡ false
+  aside_stays once x r among never not_done =
+      let e = split_at events (frames.Request r) among in
+      let k = placed_at o.items (requests_of e.before) r (requests_of e.later) (o.requests ∙ ap requests_of e.split ∙ requests-append e.before (frames.Request r ∷ e.later)) in
+      let aside = all_at (IsAside first answers) k.front k.back k.item (subst (AllByRecursion (IsAside first answers)) k.split o.aside) (ap first.waits k.is ∙ never) in
+      ap (acted_by o.items x) (sym k.is)
+      ∙ all_at (λ i. acted_by o.items x i.request ≡ i.acted x) k.front k.back k.item (subst (AllByRecursion (λ i. acted_by o.items x i.request ≡ i.acted x)) k.split (act_as_items once x))
+      ∙ by_test (λ b. b ≡ false) (k.item.acted x) (λ yes. sym (aside.1 x yes) ∙ ap (was_done answers) k.is ∙ not_done) (λ no. refl)
 
   -- where it is faithful, exactly those have
   pub act_as_done : f ≡ true → ActAs (λ x. was_done answers)

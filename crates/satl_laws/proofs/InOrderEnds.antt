@@ -17,7 +17,7 @@ use Rattle.satl_laws.specs.OnceEach.{answers_to, asks_by}
 use Rattle.satl_laws.proofs.Eligibles.{SplitAt, split_at, without_is}
 use Rattle.satl_laws.proofs.Ends.{eligible_in, ends_leaves}
 use Rattle.satl_laws.proofs.Given.{GivesRight}
-use Rattle.satl_laws.proofs.InOrder.{InOrder, holds, sectors, trim}
+use Rattle.satl_laws.proofs.InOrder.{Begin, InOrder, holds, sectors, trim}
 use Rattle.satl_laws.proofs.InOrderLeaves.{awaits, own, place}
 use Rattle.satl_laws.proofs.InOrderLeft.{left_in_order}
 use Rattle.satl_laws.proofs.InOrderPlace.{clear, it, sorted_at, stands_at, tasks_at}
@@ -30,7 +30,7 @@ use Rattle.satl_laws.proofs.TaskEnds.{ends_change, ends_read, ends_size}
 use Rattle.satl_laws.proofs.Tasks.{IsPlainTask, done_good, good_done, may_eligible, reply_named, reply_other, writer_fits}
 use Rattle.satl_laws.proofs.Transferring.{brings, spans}
 
-module _ (first : Device) (events : List Frame) (answers : List Answer) (s new : Device) (faithful still_faithful : Bool) (o : InOrder first events answers s.cells s.tasks faithful)
+module _ (first : Begin) (events : List Frame) (answers : List Answer) (s new : Device) (faithful still_faithful : Bool) (o : InOrder first events answers s.cells s.tasks faithful)
     (once : (nexus tag : ℕ) → how_many (asks_by nexus tag) events < 2) (reply : Reply) (e : OneEnds s reply new)
     (whole : still_faithful ≡ true → (faithful ≡ true) × (brings (e.task).command ≡ true → is_good reply.status ≡ true)) where
   -- its task
@@ -76,12 +76,12 @@ module _ (first : Device) (events : List Frame) (answers : List Answer) (s new :
   stands_here = stands_at first events answers s.cells s.tasks faithful o once at.before at.later t at.split
 
   -- what it leaves in a sector
-  leaves : (x : ℕ) → x < sectors first → (acted : Bool) × Leaves (trim first) (sectors first) x (read_at s.cells x) (read_at new.cells x) (read_at first.cells x) in_front behind its_item t (is_good reply.status) acted
+  leaves : (x : ℕ) → x < sectors first → (acted : Bool) × Leaves (trim first) (sectors first) x (read_at s.cells x) (read_at new.cells x) (read_at first.device.cells x) in_front behind its_item t (is_good reply.status) acted
   leaves x inside =
       ⊎_elim
-      (λ c. leaves_still (trim first) (sectors first) x (read_at s.cells x) (read_at new.cells x) (read_at first.cells x) in_front behind its_item t (is_good reply.status) it_awaits (sorted_here x inside) its_place.is
+      (λ c. leaves_still (trim first) (sectors first) x (read_at s.cells x) (read_at new.cells x) (read_at first.device.cells x) in_front behind its_item t (is_good reply.status) it_awaits (sorted_here x inside) its_place.is
       c.0 c.1 (λ el. none_before x) (stands_here x inside))
-      (λ c. leaves_done (trim first) (sectors first) x (read_at s.cells x) (read_at new.cells x) (read_at first.cells x) in_front behind its_item t (is_good reply.status) it_awaits (sorted_here x inside) its_place.is
+      (λ c. leaves_done (trim first) (sectors first) x (read_at s.cells x) (read_at new.cells x) (read_at first.device.cells x) in_front behind its_item t (is_good reply.status) it_awaits (sorted_here x inside) its_place.is
       c.0 c.1 (none_before x)
       (λ u el writes mine. alone first events answers s.cells s.tasks faithful o once at.before at.later t at.split eligible x (writer_fits (sectors first) t task_plain (and_parts (brings t.command) (spans t.command x) mine).0) (and_parts (brings t.command) (spans t.command x) mine).1 u (subst (λ ts. IsEligible ts u) all_tasks el) writes)
       (stands_here x inside))

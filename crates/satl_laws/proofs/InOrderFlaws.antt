@@ -11,11 +11,11 @@ use Rattle.satl_frame.specs.declared.frames.Frame.{Frame}
 use Rattle.satl_frame.specs.Output.{Answer}
 use Rattle.satl_direct.specs.Device.{Device}
 use Rattle.satl_laws.specs.ArrivalOrder.{read_at}
-use Rattle.satl_laws.proofs.InOrder.{cells_in_order, holds, InOrder}
+use Rattle.satl_laws.proofs.InOrder.{Begin, cells_in_order, holds, InOrder}
 use Rattle.satl_laws.proofs.InOrderSteps.{InOrderAt}
 use Rattle.satl_laws.proofs.Standing.{Stands}
 
-module _ (first : Device) (exact : Bool) where
+module _ (first : Begin) (exact : Bool) where
   -- flaws that come and go leave what is read
   pub flaws_at : (events : List Frame) (answers : List Answer) (s new : Device) (lba : ℕ) (f : Cell → Cell) → ((c : Cell) → (f c).now ≡ c.now) → (exact ≡ true → ⊥) → new ≡ record s { cells = change_at s.cells lba f }
       → InOrderAt first exact events answers s → InOrderAt first exact events answers new

@@ -10,7 +10,7 @@ use Rattle.satl_cdb.specs.Table.{says}
 use Rattle.satl_frame.specs.declared.frames.Frame.{Frame}
 use Rattle.satl_frame.specs.Output.{Answer}
 use Rattle.satl_line.specs.declared.entry.Entry.{Entry}
-use Rattle.satl_direct.specs.Device.{Device, is_called}
+use Rattle.satl_direct.specs.Device.{is_called}
 use Rattle.satl_laws.specs.ArrivalOrder.{IsGoodReply, IsReadOf, is_done, read_at, was_done}
 use Rattle.satl_laws.specs.OnceEach.{answers_to, asks_by}
 use Rattle.satl_direct.specs.Valid.{AreOwn}
@@ -23,9 +23,9 @@ use Rattle.satl_laws.proofs.Settling.{pending}
 use Rattle.satl_laws.proofs.Standing.{Leaves}
 use Rattle.satl_laws.proofs.Transferring.{brings}
 use Rattle.satl_laws.proofs.Rows.{all_at}
-use Rattle.satl_laws.proofs.InOrder.{InOrder, holds, sectors, trim}
+use Rattle.satl_laws.proofs.InOrder.{Begin, InOrder, holds, sectors, trim}
 
-module _ (first : Device) where
+module _ (first : Begin) where
   module _ (events : List Frame) (answers : List Answer) (cells : List Cell) (tasks : List Entry) (faithful : Bool) (o : InOrder first events answers cells tasks faithful)
       (once : (nexus tag : ℕ) → how_many (asks_by nexus tag) events < 2) (before later : List Entry) (t : Entry) (split : tasks ≡ before ++ t ∷ later) where
     -- its place
@@ -76,5 +76,5 @@ module _ (first : Device) where
       pub told_good : still_faithful ≡ true → good ≡ true → list_any (is_done item.request) more ≡ true
       pub whole : still_faithful ≡ true → (faithful ≡ true) × (brings t.command ≡ true → good ≡ true)
       pub size : length new ≡ length cells
-      pub leaves : (x : ℕ) → x < (sectors first) → (acted : Bool) × Leaves (trim first) (sectors first) x (read_at cells x) (read_at new x) (read_at first.cells x) place.front place.back item t good acted
+      pub leaves : (x : ℕ) → x < (sectors first) → (acted : Bool) × Leaves (trim first) (sectors first) x (read_at cells x) (read_at new x) (read_at first.device.cells x) place.front place.back item t good acted
       pub reads : (reply : Reply) (lba count : ℕ) → IsReadOf (says item.request.cdb (trim first)) lba count → IsGoodReply item.request reply more → GivesRight (trim first) (holds first place.front) (pending (λ x. false) place.front) reply lba count

@@ -18,7 +18,7 @@ use Rattle.satl_direct.specs.Device.{Device}
 use Rattle.satl_laws.specs.ArrivalOrder.{read_at}
 use Rattle.satl_direct.specs.Quiet.{MayShow, writes}
 use Rattle.satl_laws.proofs.Ends.{eligible_in}
-use Rattle.satl_laws.proofs.InOrder.{cells_in_order, holds, InOrder, sectors, trim}
+use Rattle.satl_laws.proofs.InOrder.{Begin, cells_in_order, holds, InOrder, sectors, trim}
 use Rattle.satl_laws.proofs.Seen.{by_test, put_elsewhere, put_seen}
 use Rattle.satl_laws.proofs.Flawless.{loses_seen}
 use Rattle.satl_laws.proofs.Rows.{in_all}
@@ -27,7 +27,7 @@ use Rattle.satl_laws.proofs.PlainTasks.{none_written}
 use Rattle.satl_laws.proofs.Tasks.{IsPlainTask, tasks_plain, writer_fits}
 use Rattle.satl_laws.proofs.Transferring.{after, brings, pair_of, spans}
 
-module _ (first : Device) where
+module _ (first : Begin) where
   -- ---- quiet moves
 
   module _ (tasks : List Entry) (plain : AllByRecursion (IsPlainTask (sectors first)) tasks) (hold : ℕ → Block) where

@@ -12,11 +12,11 @@ use Rattle.satl_frame.specs.Output.Answer.{replied}
 use Rattle.satl_line.specs.declared.entry.Entry.{Entry}
 use Rattle.satl_line.specs.Conflict.{conflicts}
 use Rattle.satl_line.specs.Eligible.{IsEligible}
-use Rattle.satl_direct.specs.Device.{Device, is_called}
+use Rattle.satl_direct.specs.Device.{is_called}
 use Rattle.satl_laws.specs.ArrivalOrder.{is_done, read_at}
 use Rattle.satl_laws.specs.OnceEach.{answers_to, asks_by}
 use Rattle.satl_direct.specs.Quiet.{writes}
-use Rattle.satl_laws.proofs.InOrder.{InOrder, holds, sectors, trim}
+use Rattle.satl_laws.proofs.InOrder.{Begin, InOrder, holds, sectors, trim}
 use Rattle.satl_laws.proofs.InOrderLeaves.{awaits, own, place}
 use Rattle.satl_laws.proofs.InOrderLeft.{left_in_order}
 use Rattle.satl_laws.proofs.Rows.{all_front, in_all}
@@ -28,7 +28,7 @@ use Rattle.satl_laws.proofs.Standing.{NoneCovers, Stands, leaves_still, writes_a
 use Rattle.satl_laws.proofs.Tasks.{IsPlainTask, tasks_plain, writer_fits}
 use Rattle.satl_laws.proofs.Transferring.{brings, spans}
 
-module _ (first : Device) (events : List Frame) (answers : List Answer) (cells : List Cell) (tasks : List Entry) (faithful : Bool) (o : InOrder first events answers cells tasks faithful)
+module _ (first : Begin) (events : List Frame) (answers : List Answer) (cells : List Cell) (tasks : List Entry) (faithful : Bool) (o : InOrder first events answers cells tasks faithful)
     (once : (nexus tag : ℕ) → how_many (asks_by nexus tag) events < 2) (before later : List Entry) (t : Entry) (split : tasks ≡ before ++ t ∷ later) where
   -- its place
   abbrev its_place : PlaceOf o.items before t later
@@ -89,7 +89,7 @@ module _ (first : Device) (events : List Frame) (answers : List Answer) (cells :
         told_good = λ f. absurd cc;
         whole = λ f. absurd cc;
         size = refl;
-        leaves = λ x inside. leaves_still (trim first) (sectors first) x (read_at cells x) (read_at cells x) (read_at first.cells x) front back one_item t false
+        leaves = λ x inside. leaves_still (trim first) (sectors first) x (read_at cells x) (read_at cells x) (read_at first.device.cells x) front back one_item t false
             (awaits first events answers cells tasks faithful o once before later t split) (sorted_at x inside) its_place.is refl refl
             (λ el. clear x (subst (λ ts. IsEligible ts t) tasks_at el)) (stands_at x inside);
         reads = λ other lba count is_read g. absurd (let no : true ≡ false = sym g.done ∙ none_in (is_done one_item.request) more (replied other) (bad one_item.request) g.among in cc);

@@ -11,13 +11,12 @@ use Rattle.satl_frame.specs.declared.frames.Frame.{Frame}
 use Rattle.satl_frame.specs.Output.{Answer}
 use Rattle.satl_line.specs.declared.entry.Entry.{Entry}
 use Rattle.satl_line.specs.Eligible.{IsEligible}
-use Rattle.satl_direct.specs.Device.{Device}
 use Rattle.satl_direct.specs.Tasks.{range_of}
 use Rattle.satl_laws.specs.ArrivalOrder.{IsReadOf, brought, read_at}
 use Rattle.satl_laws.specs.OnceEach.{asks_by}
 use Rattle.satl_laws.proofs.Ends.{eligible_in}
 use Rattle.satl_laws.proofs.Given.{GivesRight}
-use Rattle.satl_laws.proofs.InOrder.{InOrder, holds, sectors, trim}
+use Rattle.satl_laws.proofs.InOrder.{Begin, InOrder, holds, sectors, trim}
 use Rattle.satl_laws.proofs.InOrderLeaves.{awaits, place}
 use Rattle.satl_laws.proofs.InOrderPlace.{back, free, front, it, one_item, plain, sorted_at, stands_at, tasks_at, well_front}
 use Rattle.satl_laws.proofs.Items.{AreSorted, Awaits, Item, covers, held, held-append}
@@ -29,7 +28,7 @@ use Rattle.satl_laws.proofs.Standing.{writes_at}
 use Rattle.satl_laws.proofs.Tasks.{IsPlainTask, reader_fits, writes_alone}
 use Rattle.satl_laws.proofs.Transferring.{Transfers, brings, gives, read_of, reads_only, spans}
 
-module _ (first : Device) (events : List Frame) (answers : List Answer) (cells : List Cell) (tasks : List Entry) (faithful : Bool) (o : InOrder first events answers cells tasks faithful)
+module _ (first : Begin) (events : List Frame) (answers : List Answer) (cells : List Cell) (tasks : List Entry) (faithful : Bool) (o : InOrder first events answers cells tasks faithful)
     (once : (nexus tag : ℕ) → how_many (asks_by nexus tag) events < 2) (before later : List Entry) (t : Entry) (split : tasks ≡ before ++ t ∷ later) (eligible : IsEligible tasks t) where
   -- its place
   abbrev in_front : List Item
@@ -68,7 +67,7 @@ module _ (first : Device) (events : List Frame) (answers : List Answer) (cells :
   reads_held : (x : ℕ) → x < sectors first → gives t.command ≡ true → spans t.command x ≡ true → read_at cells x ≡ holds first in_front x
   reads_held x inside g has =
       ⊎_elim
-      (λ is. is ∙ held-append (trim first) x (read_at first.cells x) in_front (its_item ∷ behind) ∙ none_behind x inside g has (holds first in_front x))
+      (λ is. is ∙ held-append (trim first) x (read_at first.device.cells x) in_front (its_item ∷ behind) ∙ none_behind x inside g has (holds first in_front x))
       (λ early. absurd (reads_only t.command g
       (ap (λ u. brings u.command) (sym (alone x (reader_fits (sectors first) t task_plain g) has early.task
       (subst (λ ts. IsEligible ts early.task) (tasks_at first events answers cells tasks faithful o once before later t split) early.eligible) early.writes_it))

@@ -18,14 +18,14 @@ use Rattle.satl_direct.specs.Arrival.{Arrival, Arrives, ArrivesAs, arrival}
 use Rattle.satl_direct.specs.Arrival.Arrival.{answered, attended, overlaps, waits}
 use Rattle.satl_laws.specs.ArrivalOrder.{is_done, is_plain, read_at, stops_or_starts, was_done, writes_plainly}
 use Rattle.satl_laws.specs.OnceEach.{answers_to, asks_by}
-use Rattle.satl_laws.specs.OrderUnderErrors.{is_mild}
+use Rattle.satl_laws.specs.OrderUnderErrors.{is_mild, waits_at}
 use Rattle.satl_laws.proofs.Arrivals.{IsFor, IsTo, arrival_for}
 use Rattle.satl_laws.proofs.Bringing.{Answers, Gets}
 use Rattle.satl_laws.proofs.Arriving.{arrival_gets}
 use Rattle.satl_laws.proofs.Calm.{IsCalm}
 use Rattle.satl_laws.proofs.Cases.{how_many-append}
 use Rattle.satl_laws.proofs.Given.{IsTold, right_on}
-use Rattle.satl_laws.proofs.InOrder.{InOrder, IsOnly, IsSure, sectors, trim}
+use Rattle.satl_laws.proofs.InOrder.{Begin, InOrder, IsAside, IsOnly, IsSure, sectors, trim}
 use Rattle.satl_laws.proofs.InOrderArrivals.{answered_in_order}
 use Rattle.satl_laws.proofs.InOrderWaits.{waits_in_order}
 use Rattle.satl_laws.proofs.InOrderSteps.{InOrderAt, up_of}
@@ -33,10 +33,10 @@ use Rattle.satl_laws.proofs.Names.{one}
 use Rattle.satl_laws.proofs.Flawless.{IsClean}
 use Rattle.satl_laws.proofs.Items.{Item}
 
-module _ (first : Device) (exact : Bool) where
+module _ (first : Begin) (exact : Bool) where
   -- an event that may stand in such a run
   abbrev pub MayStand : Frame → Type 0
-  MayStand event = (is_mild first.identity.trim event ≡ true) × (exact ≡ true → is_plain first.identity.trim event ≡ true)
+  MayStand event = (is_mild first.device.identity.trim event ≡ true) × (exact ≡ true → is_plain first.device.identity.trim event ≡ true)
 
   -- ---- answers that are no replies
 
@@ -56,7 +56,8 @@ module _ (first : Device) (exact : Bool) where
       stands = p.stands;
       sure = All-weaken (IsSure first answers) (IsSure first now) (λ k sure h. sure (sym (same k.request) ∙ h)) p.items p.sure;
       only = λ f. All-weaken (IsOnly first answers) (IsOnly first now) (λ k only x h. same k.request ∙ only x h) p.items (p.only f);
-      right = right_on (trim first) answers now p.items (read_at first.cells) (read_at first.cells) (λ x. false) (λ x. false) (λ x h. (refl, h)) (told p.items) p.right;
+      aside = All-weaken (IsAside first answers) (IsAside first now) (λ k aside no. let a = aside no in (a.0, λ x h. same k.request ∙ a.1 x h)) p.items p.aside;
+      right = right_on (trim first) answers now p.items (read_at first.device.cells) (read_at first.device.cells) (λ x. false) (λ x. false) (λ x h. (refl, h)) (told p.items) p.right;
     };
     calm = o.calm;
     steady = o.steady;
@@ -87,9 +88,9 @@ module _ (first : Device) (exact : Bool) where
   -- ---- arrivals
 
   -- a request arrives
-  pub arrives_at : (events : List Frame) (answers : List Answer) (old new : Device) (r : Request) (said : List Reply) → length first.cells ≡ first.identity.capacity → how_many (asks_by r.nexus (r.tag).0) events ≡ 0
-      → MayStand (frames.Request r) → Arrives r old said new → InOrderAt first exact events answers old → InOrderAt first exact (events ++ frames.Request r ∷ []) (answers ++ map replied said) new
-  arrives_at events answers old new r said size unasked fits h o = go (arrival old r) (arrival_for old r) gets h
+  pub arrives_at : (events : List Frame) (answers : List Answer) (old new : Device) (r : Request) (said : List Reply) → length first.device.cells ≡ first.device.identity.capacity → how_many (asks_by r.nexus (r.tag).0) events ≡ 0
+      → MayStand (frames.Request r) → (waits_at (arrival old r) ≡ true → first.waits r ≡ true) → Arrives r old said new → InOrderAt first exact events answers old → InOrderAt first exact (events ++ frames.Request r ∷ []) (answers ++ map replied said) new
+  arrives_at events answers old new r said size unasked fits may h o = go (arrival old r) (arrival_for old r) gets may h
     where
       no_task : list_any (is_called r.nexus (r.tag).0) old.tasks ≡ false
       no_task = none_counted (is_called r.nexus (r.tag).0) old.tasks (omega (arith, o.order.counts r.nexus (r.tag).0, unasked))
@@ -121,21 +122,21 @@ module _ (first : Device) (exact : Bool) where
           same_calm : new.cells ≡ old.cells → new.started ≡ old.started → new.glitches ≡ old.glitches → IsCalm old → IsCalm new
           same_calm c s g k = record { started = s ∙ k.started; no_glitches = g ∙ k.no_glitches; clean = subst (AllByRecursion IsClean) (sym c) k.clean }
 
-      go : (a : Arrival) → IsFor r a → Gets (sectors first) false (says r.cdb (trim first)) r.body a → ArrivesAs a r old said new → InOrderAt first exact (events ++ frames.Request r ∷ []) (answers ++ map replied said) new
-      go (answered reply) to g k =
+      go : (a : Arrival) → IsFor r a → Gets (sectors first) false (says r.cdb (trim first)) r.body a → (waits_at a ≡ true → first.waits r ≡ true) → ArrivesAs a r old said new → InOrderAt first exact (events ++ frames.Request r ∷ []) (answers ++ map replied said) new
+      go (answered reply) to g can k =
           subst (λ l. InOrderAt first exact (events ++ frames.Request r ∷ []) (answers ++ map replied l) new) (sym k.0)
           (at_once reply to g (ap (λ d. d.cells) k.1) (ap (λ d. d.tasks) k.1) (ap (λ d. d.down) k.1) (ap (λ d. d.started) k.1) (ap (λ d. d.glitches) k.1) (ap (λ d. d.identity) k.1))
-      go (attended reply) to g k =
+      go (attended reply) to g can k =
           subst (λ l. InOrderAt first exact (events ++ frames.Request r ∷ []) (answers ++ map replied l) new) (sym k.0)
           (at_once reply to g (ap (λ d. d.cells) k.1) (ap (λ d. d.tasks) k.1) (ap (λ d. d.down) k.1) (ap (λ d. d.started) k.1) (ap (λ d. d.glitches) k.1) (ap (λ d. d.identity) k.1))
-      go (overlaps reply) to g k = absurd cc
-      go (waits task) to g k =
+      go (overlaps reply) to g can k = absurd cc
+      go (waits task) to g can k =
           subst (λ l. InOrderAt first exact (events ++ frames.Request r ∷ []) (answers ++ map replied l) new) (sym k.0)
           (subst (λ l. InOrderAt first exact (events ++ frames.Request r ∷ []) l new) (sym (append-nil answers))
           (subst (InOrderAt first exact (events ++ frames.Request r ∷ []) answers) (sym k.1)
           (record {
             identity = o.identity;
-            order = waits_in_order first events answers old.cells old.tasks (exact && not old.down) r o.order unasked task to g fits.0;
+            order = waits_in_order first events answers old.cells old.tasks (exact && not old.down) r o.order unasked task to g fits.0 (can refl);
             calm = λ x up. let c = o.calm x up in record { started = c.started; no_glitches = c.no_glitches; clean = c.clean };
             steady = λ x. All-push_end (λ t. stops_or_starts (Ok t.command) ≡ false) old.tasks task (o.steady x)
                 (sym (ap stops_or_starts g.says_it) ∙ up_of (writes_plainly (says r.cdb (trim first))) (stops_or_starts (says r.cdb (trim first))) (fits.1 x));

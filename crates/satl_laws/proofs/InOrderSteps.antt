@@ -21,7 +21,7 @@ use Rattle.satl_direct.specs.Turn.{OneEnds}
 use Rattle.satl_direct.proofs.Quieting.{quiet_tasks}
 use Rattle.satl_laws.proofs.Calm.{EndsCalm, IsCalm, ends_calm, quiet_calm}
 use Rattle.satl_laws.proofs.Ends.{eligible_in, ends_leaves}
-use Rattle.satl_laws.proofs.InOrder.{InOrder, sectors, trim}
+use Rattle.satl_laws.proofs.InOrder.{Begin, InOrder, sectors, trim}
 use Rattle.satl_laws.proofs.InOrderEnds.{one_in_order}
 use Rattle.satl_laws.proofs.InOrderMoves.{moved_in_order}
 use Rattle.satl_laws.proofs.Reaching.{ends_reach}
@@ -41,7 +41,7 @@ up_of _ _ h = absurd cc
 pub not_both : (p q : Bool) → q ≡ true → (p && not q) ≡ true → ⊥
 not_both p q h k = let no : true ≡ false = sym h ∙ up_of p q k in cc
 
-module _ (first : Device) (exact : Bool) where
+module _ (first : Begin) (exact : Bool) where
   -- no task stops or starts the unit
   abbrev pub AreSteady : List Entry → Type 0
   AreSteady tasks = AllByRecursion (λ t. stops_or_starts (Ok t.command) ≡ false) tasks
@@ -49,7 +49,7 @@ module _ (first : Device) (exact : Bool) where
   -- the device after some events and answers; where the run is exact and its link is up it is calm, and each WRITE that has
   -- acted was answered with GOOD
   pub record InOrderAt (events : List Frame) (answers : List Answer) (s : Device) : Type 0 where
-    pub identity : s.identity ≡ first.identity
+    pub identity : s.identity ≡ first.device.identity
     pub order : InOrder first events answers s.cells s.tasks (exact && not s.down)
     pub calm : exact ≡ true → s.down ≡ false → IsCalm s
     pub steady : exact ≡ true → AreSteady s.tasks
@@ -67,6 +67,7 @@ module _ (first : Device) (exact : Bool) where
     stands = o.stands;
     sure = o.sure;
     only = λ k. o.only (h k);
+    aside = o.aside;
     right = o.right;
   }
 

@@ -13,6 +13,7 @@ use Rattle.satl_direct.specs.Turn.Turn.{idle, ends, loses, ends_and_loses}
 use Rattle.satl_direct.specs.Run.{MayLose, TurnsOf}
 use Rattle.satl_direct.specs.Run.MayLose.{keeps, keeps_and_loses}
 use Rattle.satl_direct.specs.Run.TurnsOf.{none, more}
+use Rattle.satl_laws.proofs.InOrder.{Begin}
 use Rattle.satl_laws.proofs.Cases.{how_many-append}
 use Rattle.satl_laws.proofs.InOrderSteps.{InOrderAt, one_at, quiet_at}
 use Rattle.satl_laws.proofs.InOrderDrops.{lost_at}
@@ -24,7 +25,7 @@ fewer events event once nexus tag = less _ _ _ (how_many-append (asks_by nexus t
     less : (a b c : ℕ) → a ≡ b + c → a < 2 → b < 2
     less a b c h k = omega (arith, h, k)
 
-module _ (first : Device) (exact : Bool) where
+module _ (first : Begin) (exact : Bool) where
   -- turns
   pub turn_at : (events : List Frame) (answers : List Answer) (s new : Device) (said : List Reply) → ((nexus tag : ℕ) → how_many (asks_by nexus tag) events < 2) → Turn s said new → InOrderAt first exact events answers s → InOrderAt first exact events (answers ++ map replied said) new
   turn_at events answers s new said once (idle h) o = subst (λ a. InOrderAt first exact events a s) (sym (append-nil answers)) o

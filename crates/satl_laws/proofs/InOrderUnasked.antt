@@ -5,14 +5,13 @@ use Rattle.satl_base.specs.Cells.{Cell}
 use Rattle.satl_frame.specs.declared.frames.Frame.{Frame}
 use Rattle.satl_frame.specs.Output.{Answer}
 use Rattle.satl_line.specs.declared.entry.Entry.{Entry}
-use Rattle.satl_direct.specs.Device.{Device}
 use Rattle.satl_laws.specs.OnceEach.{asks_by}
 use Rattle.satl_laws.proofs.Cases.{how_many-append}
-use Rattle.satl_laws.proofs.InOrder.{InOrder}
+use Rattle.satl_laws.proofs.InOrder.{Begin, InOrder}
 use Rattle.satl_laws.proofs.Names.{one}
 use Rattle.satl_laws.proofs.Requests.{asked_in, requests-append, requests_of}
 
-module _ (first : Device) where
+module _ (first : Begin) where
   -- an event that asks nothing
   pub unasking_in_order : (events : List Frame) (answers : List Answer) (cells : List Cell) (tasks : List Entry) (faithful : Bool) (event : Frame) → asked_in event ≡ [] → ((nexus tag : ℕ) → asks_by nexus tag event ≡ false)
       → InOrder first events answers cells tasks faithful → InOrder first (events ++ event ∷ []) answers cells tasks faithful
@@ -27,5 +26,6 @@ module _ (first : Device) where
     stands = o.stands;
     sure = o.sure;
     only = o.only;
+    aside = o.aside;
     right = o.right;
   }

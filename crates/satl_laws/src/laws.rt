@@ -33,8 +33,9 @@ pub fn transfers_act_in_order_of_arrival()
 
 /// Law of order under errors: in a run with flaws, CRC errors, losses of the link and task management functions, where each
 /// nexus and tag asks once and no command changes blocks but WRITE, each WRITE that was not answered with GOOD has acted on
-/// each sector or not, once and for all; each READ that is answered with GOOD gives the blocks of the WRITEs before it in
-/// the input that have acted, and at the end each sector has the block of the last of all these (SAM-5 8; SBC-3 5).
+/// each sector or not, once and for all, and has not where it never became a task; each READ that is answered with GOOD gives
+/// the blocks of the WRITEs before it in the input that have acted, and at the end each sector has the block of the last of
+/// all these (SAM-5 8; SBC-3 5).
 pub fn each_write_acts_in_order_or_not_at_all()
     ensures { OrderUnderErrors }
 {}

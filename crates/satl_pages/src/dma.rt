@@ -1,5 +1,5 @@
 // The slots through which a drive reaches pages.
-ghost use Rattle.std.specs.Prelude.{◌≡◌, Some, None, replicate, slice_get, slice_set, List};
+ghost use Rattle.std.specs.Prelude.{◌≡◌, Some, None, length, replicate, slice_get, slice_set, List};
 ghost use Rattle.std.specs.Option.{option_copied};
 ghost use Rattle.satl_base.specs.declared.block.Block.{Block};
 ghost use Rattle.satl_pages.specs.Slots.{pages_at};
@@ -7,12 +7,15 @@ ghost use Rattle.satl_pages.specs.Slots.{pages_at};
 use arrayvec::ArrayVec;
 use satl_base::{Pages, QUEUE_DEPTH};
 use std::marker::Model;
+use std::mem;
 
 /// A slot for each of the 32 tags of a drive (ACS-3, NCQ feature set; the slots are the profile's). Clauses see the
 /// list of the slots, each empty or with its blocks.
 #[derive(Drop)]
 pub struct Dma {
     slots: ArrayVec<Option<Pages>, QUEUE_DEPTH>,
+    // Pages beside those in the slots, which were in use not long ago.
+    recent: Pages,
 }
 
 impl Model for Dma {
@@ -41,11 +44,32 @@ impl Dma {
     pub fn new() -> Dma
         ensures { result ≡ replicate 32 None }
     {
+        Dma::keeping(Pages::default())
+    }
+
+    /// 32 slots, all of them empty, with pages beside them, which are exchanged for as many. It takes no memory (profile).
+    pub fn keeping(recent: Pages) -> Dma
+        ensures { result ≡ replicate 32 None }
+    {
         let mut slots = ArrayVec::new();
         for _ in 0..32u32 {
             slots.push(None);
         }
-        Dma { slots }
+        Dma { slots, recent }
+    }
+
+    /// Gives as many pages as it takes, with whatever they hold: those beside the slots where these are as many, and keeps the
+    /// ones that it takes in their place (profile).
+    // It serves speed alone: a READ is filled into pages of an earlier reply, which a cache still has, and not into those that
+    // its task has had since it came.
+    pub fn exchange(&mut self, pages: Pages) -> Pages
+        ensures as_many { length result ≡ length pages }
+        ensures same { self.new ≡ self.old }
+    {
+        if pages.blocks() != self.recent.blocks() {
+            return pages;
+        }
+        mem::replace(&mut self.recent, pages)
     }
 
     /// Puts pages into the slot of a tag, which is empty (profile).
@@ -91,6 +115,7 @@ impl Dma {
 #[cfg(test)]
 mod tests {
     use super::*;
+    use satl_base::Block;
     use std::test::Fail;
 
     #[test]
@@ -104,6 +129,19 @@ mod tests {
         assert_eq!(rt; dma.pages(31).map(|pages| pages.blocks()), Some(2));
         assert_eq!(rt; dma.take(31).blocks(), 2);
         assert!(rt; dma.pages(31).is_none());
+        Ok(())
+    }
+
+    #[test]
+    fn as_many_pages_are_exchanged(rt: HostRuntime) -> Result<(), Fail> {
+        let mut two = Pages::zeroed(rt.alloc(), 2)?;
+        two.set_block(1, &Block { bytes: [7; 512] });
+        let mut dma = Dma::keeping(two);
+        assert_eq!(rt; dma.exchange(Pages::zeroed(rt.alloc(), 3)?).blocks(), 3);
+        let other = dma.exchange(Pages::zeroed(rt.alloc(), 2)?);
+        assert_eq!(rt; other.blocks(), 2);
+        assert_eq!(rt; other.block(1).bytes[0], 7);
+        assert_eq!(rt; dma.exchange(other).block(1).bytes[0], 0);
         Ok(())
     }
 }

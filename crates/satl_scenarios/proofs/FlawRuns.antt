@@ -1,10 +1,12 @@
 -- Transfers that meet a flaw of a sector or a CRC error.
-use Rattle.std.proofs.Common.{inl, inr, refl, false, [], ◌∷◌}
+use Rattle.std.proofs.Common.{inl, inr, refl, false, List, [], ◌∷◌}
 use Rattle.satl_cdb.specs.declared.command.Command.TheVariants.{Read, Write}
 use Rattle.satl_cdb.specs.declared.command.Form.TheVariants.{Ten}
 use Rattle.satl_cdb.specs.Table.{says}
 use Rattle.satl_sense.specs.Descriptor.{descriptor_form}
 use Rattle.satl_sense.specs.Fixed.{fixed_form}
+use Rattle.satl_frame.specs.declared.frames.Frame.TheVariants.{End}
+use Rattle.satl_frame.specs.Output.Answer.{closed}
 use Rattle.satl_line.specs.Conflict.{accesses_conflict}
 use Rattle.satl_line.specs.declared.entry.Entry.{Entry}
 use Rattle.satl_line.specs.Ranged.RangedTask.{ranged_read, ranged_write}
@@ -15,33 +17,57 @@ use Rattle.satl_direct.specs.Run.TurnsOf.{none}
 use Rattle.satl_scenarios.specs.Scenario.{CanHappen}
 use Rattle.satl_scenarios.specs.Flaws.{flaw_among_writes, torn_write, garbled_read, spared_read, described}
 use Rattle.satl_scenarios.specs.Devices.{aa, bb, never_written, device, unreadable, unwritable, zeros}
+use Rattle.satl_scenarios.specs.Replies.{check_condition, good, sense_at}
 use Rattle.satl_scenarios.specs.Requests.{task}
-use Rattle.satl_scenarios.proofs.Building.{it_can_happen, arrives, drained, happens, one_turn, turn_more}
+use Rattle.satl_scenarios.proofs.Building.{Occurs, it_can_happen, arrives, drained, happens, one_turn, turn_more}
 use Rattle.satl_scenarios.proofs.Building.Follows.{next, ends_here}
 use Rattle.satl_scenarios.proofs.Endings.{ended, done, flawed, glitched}
 
 -- ---- a read fails, and the writes about it are done
 
-abbrev low_write : Entry
+abbrev pub low_write : Entry
 low_write = task 1 (Write Ten 0 1 false) (aa ∷ [])
 
-abbrev middle_read : Entry
+abbrev pub middle_read : Entry
 middle_read = task 2 (Read Ten 1 1 false) []
 
-abbrev high_write : Entry
+abbrev pub high_write : Entry
 high_write = task 3 (Write Ten 2 1 false) (bb ∷ [])
 
 -- the device with the flaw, and once the first write is done, and the other
-abbrev struck : Device
+abbrev pub struck : Device
 struck = device (lasts zeros ∷ unreadable zeros ∷ lasts zeros ∷ [])
 
 abbrev low_written : Device
 low_written = device (cached_over zeros aa ∷ unreadable zeros ∷ lasts zeros ∷ [])
 
-abbrev both_written : Device
+abbrev pub both_written : Device
 both_written = device (cached_over zeros aa ∷ unreadable zeros ∷ cached_over zeros bb ∷ [])
 
+-- the device with these tasks
+abbrev pub struck_with : List Entry → Device
+struck_with tasks = record struck { tasks = tasks }
+
 -- Step by step, as the definitions have it:
+
+-- END takes three turns, read here from the last one to the first, until no task is left
+pub three_end : Occurs End (struck_with (low_write ∷ middle_read ∷ high_write ∷ [])) (check_condition 2 (sense_at 0x3 0x11 0x00 1) ∷ good 1 [] ∷ good 3 [] ∷ closed ∷ []) both_written 2
+unfolding fixed_form accesses_conflict
+three_end =
+    drained
+    -- third turn: the write of sector 2 alone is there, and it is done: its block is what a read gives, and power may leave the
+    -- old one
+    (turn_more both_written
+    -- second turn: the write of sector 0 is done in the same way; it is the first of the list
+    (turn_more (record low_written { tasks = high_write ∷ [] })
+    -- first turn: the read is eligible, since the write before it does not conflict with it; the lowest flaw of its kind in its
+    -- range is at 1, so it ends with MEDIUM ERROR there; it writes nothing, so the sectors stay, and it leaves the list
+    (turn_more (struck_with (low_write ∷ high_write ∷ [])) none
+    (ended middle_read (inr (refl, inl refl)) (flawed (ranged_read false (over 1 1)) 1 struck.cells _ middle_read refl refl)))
+    (ended low_write (inl refl) (done (ranged_write false (over 0 1) (aa ∷ [])) _ low_write refl)))
+    (ended high_write (inl refl) (done (ranged_write false (over 2 1) (bb ∷ [])) _ high_write refl)))
+    refl
+
 pub read_fails_among_writes : CanHappen flaw_among_writes
 unfolding says fixed_form accesses_conflict
 read_fails_among_writes =
@@ -51,23 +77,10 @@ read_fails_among_writes =
     -- each of three commands passes all tests of an arrival (logical unit, tag, unit attention, code, fields, range, data-out,
     -- room) and so becomes the last task of the list; no two of the three ranges meet, so all are eligible, and the depth goes
     -- from 1 to 3
-    (next (arrives [] (record struck { tasks = low_write ∷ [] }) (refl, refl))
-    (next (arrives [] (record struck { tasks = low_write ∷ middle_read ∷ [] }) (refl, refl))
-    (next (arrives [] (record struck { tasks = low_write ∷ middle_read ∷ high_write ∷ [] }) (refl, refl))
-    -- END takes three turns, read here from the last one to the first, until no task is left
-    (next (drained
-    -- third turn: the write of sector 2 alone is there, and it is done: its block is what a read gives, and power may leave the
-    -- old one
-    (turn_more both_written
-    -- second turn: the write of sector 0 is done in the same way; it is the first of the list
-    (turn_more (record low_written { tasks = high_write ∷ [] })
-    -- first turn: the read is eligible, since the write before it does not conflict with it; the lowest flaw of its kind in its
-    -- range is at 1, so it ends with MEDIUM ERROR there; it writes nothing, so the sectors stay, and it leaves the list
-    (turn_more (record struck { tasks = low_write ∷ high_write ∷ [] }) none
-    (ended middle_read (inr (refl, inl refl)) (flawed (ranged_read false (over 1 1)) 1 struck.cells _ middle_read refl refl)))
-    (ended low_write (inl refl) (done (ranged_write false (over 0 1) (aa ∷ [])) _ low_write refl)))
-    (ended high_write (inl refl) (done (ranged_write false (over 2 1) (bb ∷ [])) _ high_write refl)))
-    refl)
+    (next (arrives [] (struck_with (low_write ∷ [])) (refl, refl))
+    (next (arrives [] (struck_with (low_write ∷ middle_read ∷ [])) (refl, refl))
+    (next (arrives [] (struck_with (low_write ∷ middle_read ∷ high_write ∷ [])) (refl, refl))
+    (next three_end
     ends_here)))))
 
 -- ---- a write is torn

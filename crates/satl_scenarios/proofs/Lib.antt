@@ -4,6 +4,7 @@ pub mod CommandRuns
 pub mod Endings
 pub mod FlawRuns
 pub mod FunctionRuns
+pub mod KeepingLaws
 pub mod LinkRuns
 pub mod OrderLaws
 pub mod OrderRuns

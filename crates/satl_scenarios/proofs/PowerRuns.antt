@@ -11,17 +11,20 @@ use Rattle.satl_sense.specs.Fixed.{fixed_form}
 use Rattle.satl_regs.specs.Sectors.{IsLeftBehind}
 use Rattle.satl_mode.specs.Changes.{change_from}
 use Rattle.satl_unit.specs.Conditions.{posted}
+use Rattle.satl_frame.specs.declared.frames.Frame.TheVariants.{Turn}
 use Rattle.satl_line.specs.Conflict.{accesses_conflict}
 use Rattle.satl_line.specs.declared.entry.Entry.{Entry}
 use Rattle.satl_line.specs.Ranged.RangedTask.{ranged_read, ranged_write}
+use Rattle.satl_direct.specs.Bench.{IsPowered}
 use Rattle.satl_direct.specs.Device.{Device}
 use Rattle.satl_direct.specs.Ending.{after_select, settled}
 use Rattle.satl_direct.specs.Run.TurnsOf.{none}
 use Rattle.satl_scenarios.specs.Scenario.{CanHappen}
-use Rattle.satl_scenarios.specs.Power.{caching_list, flush, written_back, flushed_then_written, select, power_with_a_task, told_once, turned_off, turned_off_then_power}
+use Rattle.satl_scenarios.specs.Power.{caching_list, flush, written_back, flushed_then_written, flushed_then_written_elsewhere, select, power_with_a_task, told_once, turned_off, turned_off_then_power}
 use Rattle.satl_scenarios.specs.Devices.{aa, bb, never_written, device, just_powered, zeros, unreadable}
-use Rattle.satl_scenarios.specs.Requests.{task}
-use Rattle.satl_scenarios.proofs.Building.{it_can_happen, arrives, happens, one_turn, turn_more, turns}
+use Rattle.satl_scenarios.specs.Replies.{good}
+use Rattle.satl_scenarios.specs.Requests.{task, write_10}
+use Rattle.satl_scenarios.proofs.Building.{Occurs, it_can_happen, arrives, happens, one_turn, turn_more, turns}
 use Rattle.satl_scenarios.proofs.Building.Follows.{next, ends_here}
 use Rattle.satl_scenarios.proofs.Endings.{ended, done, carried_out}
 
@@ -31,11 +34,11 @@ left_with old block one = record { one = one; alone = refl; read_flaw = refl; wr
 
 -- ---- a flush
 
-abbrev flush_task : Entry
+abbrev pub flush_task : Entry
 flush_task = task 1 flush []
 
 -- the device once all is written back
-abbrev kept : Device
+abbrev pub kept : Device
 kept = device (lasts aa ∷ lasts zeros ∷ [])
 
 pub flush_keeps : CanHappen written_back
@@ -71,6 +74,38 @@ later_write_kept = write_after_flush bb (inr (inl refl))
 
 pub later_write_lost : CanHappen (flushed_then_written aa)
 later_write_lost = write_after_flush aa (inl refl)
+
+-- ---- a flush, and a write elsewhere
+
+abbrev pub write_elsewhere : Entry
+write_elsewhere = task 2 (Write Ten 1 1 false) (bb ∷ [])
+
+-- the device with this write, once all is written back
+abbrev pub kept_with_write : Device
+kept_with_write = record kept { tasks = write_elsewhere ∷ [] }
+
+abbrev pub written_elsewhere : Device
+written_elsewhere = device (lasts aa ∷ cached_over zeros bb ∷ [])
+
+pub elsewhere_arrives : Occurs (write_10 2 1 (bb ∷ [])) kept [] kept_with_write 1
+unfolding says
+elsewhere_arrives = arrives [] kept_with_write (refl, refl)
+
+pub elsewhere_ends : Occurs (Turn 1) kept_with_write (good 2 [] ∷ []) written_elsewhere 0
+elsewhere_ends = one_turn written_elsewhere (ended write_elsewhere (inl refl) (done (ranged_write false (over 1 1) (bb ∷ [])) _ write_elsewhere refl))
+
+-- a loss of power takes its block, and leaves the block of sector 0
+pub power_takes_it : IsPowered written_elsewhere [] flushed_then_written_elsewhere.last
+power_takes_it = record { none = refl; cells = (left_with (lasts aa) aa (inl refl), (left_with (cached_over zeros bb) zeros (inl refl), tt)); stays = refl }
+
+pub flush_keeps_beside_a_write : CanHappen flushed_then_written_elsewhere
+flush_keeps_beside_a_write =
+    it_can_happen flushed_then_written_elsewhere
+    (next (one_turn kept (ended flush_task (inl refl) (carried_out (settled flushed_then_written_elsewhere.first) flush_task)))
+    (next elsewhere_arrives
+    (next elsewhere_ends
+    (next (happens [] flushed_then_written_elsewhere.last power_takes_it)
+    ends_here))))
 
 -- ---- the cache is turned off
 

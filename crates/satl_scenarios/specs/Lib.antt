@@ -3,6 +3,7 @@ pub mod Commands
 pub mod Devices
 pub mod Flaws
 pub mod Functions
+pub mod Keeping
 pub mod Links
 pub mod Orders
 pub mod Passes

@@ -46,6 +46,21 @@ flushed_then_written left = record {
   last = just_powered (lasts left ∷ lasts zeros ∷ []);
 }
 
+-- the cache is written back, and another sector is written: power takes that block alone (SBC-3 4.15)
+abbrev pub flushed_then_written_elsewhere : Scenario
+flushed_then_written_elsewhere = record {
+  first = cached_with flush [];
+  steps =
+      answered (Turn 1) (good 1 [] ∷ [])
+      ∷ silent (write_10 2 1 (bb ∷ []))
+      ∷ answered (Turn 1) (good 2 [] ∷ [])
+      ∷ silent (Bench bench.Power)
+      ∷ [];
+  losses = 0;
+  depth = 1;
+  last = just_powered (lasts aa ∷ lasts zeros ∷ []);
+}
+
 -- a list of 24 bytes for MODE SELECT(6): the Caching page with WCE and DRA 0 (SPC-4, MODE SELECT commands; SBC-3 6.4.5)
 unfoldable pub caching_list : Block
 caching_list = record { bytes = (0 ∷ 0 ∷ 0 ∷ 0 ∷ 0x08 ∷ 0x12 ∷ []) ++ replicate 506 0 }

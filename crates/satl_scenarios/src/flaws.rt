@@ -1,12 +1,15 @@
 //! Transfers that meet a flaw of a sector or a CRC error.
 
 ghost use Rattle.satl_scenarios.specs.Flaws.{described, flaw_among_writes, garbled_read, spared_read, torn_write};
+ghost use Rattle.satl_scenarios.specs.Keeping.{IsOfUntouched};
 ghost use Rattle.satl_scenarios.specs.Scenario.{CanHappen};
 ghost use Rattle.satl_scenarios.specs.Transfers.{garbled_write};
 
-/// A read fails at a flaw, and the writes before it and after it in the queue are done (SPC-4 4.5.6).
+/// A read fails at a flaw, and the writes before it and after it in the queue are done; the law of untouched
+/// sectors speaks of the sector that is read (SPC-4 4.5.6; SBC-3).
 pub fn a_read_with_a_flaw_among_writes()
-    ensures { CanHappen flaw_among_writes }
+    ensures run { CanHappen flaw_among_writes }
+    ensures law { IsOfUntouched flaw_among_writes 1 }
 {}
 
 /// A write fails at a flaw, and has written what stands before it (SPC-4 4.5.6).

@@ -1,6 +1,7 @@
 //! Power cycles, and what is on the medium after them.
 
-ghost use Rattle.satl_scenarios.specs.Power.{written_back, flushed_then_written, power_with_a_task, told_once, turned_off, turned_off_then_power};
+ghost use Rattle.satl_scenarios.specs.Keeping.{IsOfDurable};
+ghost use Rattle.satl_scenarios.specs.Power.{written_back, flushed_then_written, flushed_then_written_elsewhere, power_with_a_task, told_once, turned_off, turned_off_then_power};
 ghost use Rattle.satl_scenarios.specs.Scenario.{CanHappen};
 ghost use Rattle.satl_scenarios.specs.Devices.{aa, bb};
 
@@ -17,6 +18,13 @@ pub fn power_after_a_flush_and_a_write_that_survives()
 /// And it may be lost (SBC-3 4.15).
 pub fn power_after_a_flush_and_a_write_that_is_lost()
     ensures { CanHappen (flushed_then_written aa) }
+{}
+
+/// Where another sector is written after the flush, what was flushed outlives the power all the same; the law of durable
+/// sectors speaks of it (SBC-3 4.15).
+pub fn power_after_a_flush_and_a_write_elsewhere()
+    ensures run { CanHappen flushed_then_written_elsewhere }
+    ensures law { IsOfDurable flushed_then_written_elsewhere 0 }
 {}
 
 /// The cache is turned off: what was in it is on the medium (SBC-3 6.4.5).

@@ -36,14 +36,15 @@ abbrev pub IsServedInPart : Form → ℕ → Moment → Moment → Type 0
 IsServedInPart form limit before after = Serves (RanInPart form limit) before after
 
 -- nothing was read or written; the drive stays as it was, but for entries that its sectors may be left with, and, where its
--- link was lost meanwhile, for what that does; each sector reads as before; it was not unplugged, and called once at most
--- (profile)
+-- link was lost meanwhile, for what that does; each sector reads as before; it was not unplugged, no order bytes were handed
+-- in to it, and it was called once at most (profile)
 pub record IsNotServed (before after : Moment) : Type 0 where
   pub read : after.source.left ≡ before.source.left
   pub wrote : after.sink.written ≡ before.sink.written
   pub undisturbed : IsUndisturbed before.drive after.drive
   pub nows : map (λ c. c.now) after.drive.cells ≡ map (λ c. c.now) before.drive.cells
   pub unplugs : after.drive.unplugs ≡ before.drive.unplugs
+  pub orders : after.drive.orders ≡ before.drive.orders
   pub one_call : after.calls ≤ before.calls + 1
 
 -- the same by the fault (profile)

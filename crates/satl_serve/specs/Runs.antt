@@ -1,5 +1,5 @@
 -- What serving an input does: a run of the device over its frames, whose answers are written (profile).
-use Rattle.std.specs.Prelude.{◌≡◌, ◌⊎◌, ℕ, ◌+◌, ◌≤◌, true, false, List, [], ◌∷◌, ◌++◌, not, replicate, Option, Ok}
+use Rattle.std.specs.Prelude.{◌≡◌, ◌⊎◌, ℕ, ◌+◌, ◌≤◌, true, false, List, [], ◌∷◌, ◌++◌, not, replicate, Option, None, Ok}
 use Rattle.satl_base.specs.Losses.{Loses}
 use Rattle.satl_io.specs.Known.{Wrote, WrotePart}
 use Rattle.satl_identify.specs.Refusals.{identity_of}
@@ -15,7 +15,8 @@ use Rattle.satl_frame.specs.Inputs.{NoneEnds}
 use Rattle.satl_frame.specs.Output.{Answer}
 use Rattle.satl_frame.specs.Progress.{HasRead, ReadTo}
 use Rattle.satl_frame.specs.Reading.{Blames, Reading}
-use Rattle.satl_drive.specs.State.{DriveState}
+use Rattle.satl_drive.specs.State.{DriveState, IsFit}
+use Rattle.satl_barrier.specs.Leaving.{TellsOf}
 use Rattle.satl_direct.specs.Device.{Device}
 use Rattle.satl_direct.specs.Valid.{IsValid}
 use Rattle.satl_direct.specs.Run.{joined}
@@ -42,7 +43,8 @@ pub record IsFirstDevice (d : DriveState) (s : Device) : Type 0 where
   pub valid : IsValid s
 
 -- a drive is left as the device is; while its link is up its cache is on exactly where WCE is, and its look-ahead where DRA is
--- off (SBC-3 6.4.5, caching mode page; profile)
+-- off; no queued command has failed, and it fits its data, which are those of the device's identity with its settings in them
+-- (SBC-3 6.4.5, caching mode page; ACS-3, IDENTIFY DEVICE; profile)
 pub record IsLeftAs (s : Device) (d : DriveState) : Type 0 where
   pub cells : d.cells ≡ s.cells
   pub active : d.active ≡ s.active
@@ -50,6 +52,9 @@ pub record IsLeftAs (s : Device) (d : DriveState) : Type 0 where
   pub down : d.down ≡ s.down
   pub cache : d.down ≡ false → d.cache ≡ s.modes.wce
   pub look : d.down ≡ false → d.look ≡ not s.modes.dra
+  pub no_error : d.error ≡ None
+  pub fit : IsFit d
+  pub told : TellsOf s.identity.bytes d
 
 -- a drive has of a device's tasks as many as it can have, each under its tag, and nothing else (ACS-3, native command queuing;
 -- profile)

@@ -1,8 +1,10 @@
 -- A run that grows by one event.
-use Rattle.std.proofs.Common.{◌≡◌, ◌⊎◌, sym, ap, subst, arith, ℕ, ◌+◌, ◌≤◌, max, inl, inr, List, [], ◌∷◌, ◌++◌, length}
+use Rattle.std.proofs.Common.{◌≡◌, ◌⊎◌, refl, sym, ap, subst, arith, ℕ, ◌+◌, ◌≤◌, max, inl, inr, Bool, true, false, List, [], ◌∷◌, ◌++◌, length}
+use Rattle.std.specs.Prelude.{if◌then◌else◌}
 use Rattle.satl_base.specs.declared.bench.BenchEvent.TheVariants as events
+use Rattle.satl_base.specs.Lists.{how_many}
 use Rattle.satl_base.proofs.ListsLemmas.{how_many-push}
-use Rattle.satl_io.specs.Causes.{RoseBy}
+use Rattle.satl_io.specs.Causes.{RoseBy, next_count}
 use Rattle.satl_io.proofs.Counting.{RoseBy-more, RoseBy-none}
 use Rattle.satl_frame.specs.declared.frames.Frame.{Frame}
 use Rattle.satl_frame.specs.declared.frames.Frame.TheVariants as frames
@@ -12,15 +14,15 @@ use Rattle.satl_direct.specs.Device.{Device}
 use Rattle.satl_direct.specs.Run.{CutTurns, DoesInPart, DoesShort, losses_in}
 use Rattle.satl_direct.specs.Run.RunDeep.{start, next_event}
 use Rattle.satl_direct.proofs.Quieting.{quiet_none}
-use Rattle.satl_step.specs.Events.{Carried, IsTallied, IsWholeOf, unplugs_behind}
-use Rattle.satl_step.specs.Runs.{AreCounted, KeepsDeepest, RunCutSoFar, RunSoFar, Stand, is_manage, is_request, is_unplug, unplugs_in}
+use Rattle.satl_step.specs.Events.{Carried, IsTallied, IsWholeOf, orders_behind, unplugs_behind}
+use Rattle.satl_step.specs.Runs.{AreCounted, KeepsDeepest, RunCutSoFar, RunSoFar, Stand, is_manage, is_order, is_request, is_unplug}
 use Rattle.satl_direct.specs.Run.DoesInPart.{does_all, does_some}
 use Rattle.satl_direct.specs.Run.RunInPart.{one_event_more}
 
 -- ---- what an event counts of a whole one
 
 pub tallied_whole : (room : ℕ) (a b : Stand) (event whole : Frame) → event ≡ cut_to room whole → IsTallied event a b → IsTallied whole a b
-tallied_whole room a b event (frames.Request w) is tallied = let x = subst (λ f. IsTallied f a b) is tallied in record { faults = x.faults; unplugs = x.unplugs; calls = x.calls; queue = x.queue }
+tallied_whole room a b event (frames.Request w) is tallied = let x = subst (λ f. IsTallied f a b) is tallied in record { faults = x.faults; unplugs = x.unplugs; orders = x.orders; calls = x.calls; queue = x.queue }
 tallied_whole room a b event (frames.Manage m) is tallied = subst (λ f. IsTallied f a b) is tallied
 tallied_whole room a b event (frames.Turn n) is tallied = subst (λ f. IsTallied f a b) is tallied
 tallied_whole room a b event (frames.Bench e) is tallied = subst (λ f. IsTallied f a b) is tallied
@@ -33,25 +35,40 @@ asked_whole room count event (frames.Turn n) is asked = subst (λ f. CutTurns f 
 asked_whole room count event (frames.Bench e) is asked = subst (λ f. CutTurns f count) is asked
 asked_whole room count event frames.End is asked = tt
 
+-- a count rose by the events of a kind, and by no more
+pub record Counts (kind : Frame → Bool) (events : List Frame) (before now : ℕ) : Type 0 where
+  pub rose : RoseBy (how_many kind events) before now
+  pub few : now ≤ before + how_many kind events
+
+-- events and one more
+pub counts_more : (kind : Frame → Bool) (events : List Frame) (event : Frame) (before mid now : ℕ) → Counts kind events before mid → Counts kind (event ∷ []) mid now → Counts kind (events ++ event ∷ []) before now
+counts_more kind events event before mid now first one =
+    let pushed = how_many-push kind events event in
+    record { rose = omega (arith, first.rose, one.rose, pushed); few = omega (arith, first.few, one.few, pushed) }
+
+rose_once : (b : Bool) (before now : ℕ) → now ≡ (if b then next_count before else before) → RoseBy ((if b then 1 else 0) + 0) before now × (now ≤ before + ((if b then 1 else 0) + 0))
+rose_once true before now is = (omega (arith, is), omega (arith, is))
+rose_once false before now is = (omega (arith, is), omega (arith, is))
+
+-- a count that rises at an event where that is of the kind
+counts_one : (kind : Frame → Bool) (event : Frame) (before now : ℕ) → now ≡ (if kind event then next_count before else before) → Counts kind (event ∷ []) before now
+counts_one kind event before now is = let x = rose_once (kind event) before now is in record { rose = x.0; few = x.1 }
+
 -- an event unplugs the drive as often as it is counted to
-pub record Unplugs (event : Frame) (before now : ℕ) : Type 0 where
-  pub rose : RoseBy (unplugs_in (event ∷ [])) before now
-  pub few : now ≤ before + unplugs_in (event ∷ [])
+pub unplugs_one : (event : Frame) (before : ℕ) → Counts is_unplug (event ∷ []) before (unplugs_behind event before)
+unplugs_one event before = counts_one is_unplug event before (unplugs_behind event before) (is event)
+  where
+    is : (e : Frame) → unplugs_behind e before ≡ (if is_unplug e then next_count before else before)
+    is (frames.Bench events.Unplug) = refl
+    is _ = refl
 
-pub unplugs_one : (event : Frame) (before : ℕ) → Unplugs event before (unplugs_behind event before)
-unplugs_one (frames.Request w) before = record { rose = RoseBy-none before; few = omega arith }
-unplugs_one (frames.Manage m) before = record { rose = RoseBy-none before; few = omega arith }
-unplugs_one (frames.Turn n) before = record { rose = RoseBy-none before; few = omega arith }
-unplugs_one (frames.Bench (events.Strike which lba)) before = record { rose = RoseBy-none before; few = omega arith }
-unplugs_one (frames.Bench (events.Mend lba)) before = record { rose = RoseBy-none before; few = omega arith }
-unplugs_one (frames.Bench (events.Glitch count)) before = record { rose = RoseBy-none before; few = omega arith }
-unplugs_one (frames.Bench (events.Order order)) before = record { rose = RoseBy-none before; few = omega arith }
-unplugs_one (frames.Bench events.Power) before = record { rose = RoseBy-none before; few = omega arith }
-unplugs_one (frames.Bench events.Unplug) before = record { rose = omega arith; few = omega arith }
-unplugs_one frames.End before = record { rose = RoseBy-none before; few = omega arith }
-
-pub unplugs_pushed : (events : List Frame) (event : Frame) → unplugs_in (events ++ event ∷ []) ≡ unplugs_in events + unplugs_in (event ∷ [])
-unplugs_pushed events event = omega (arith, how_many-push is_unplug events event)
+-- and it hands in order bytes so
+pub orders_one : (event : Frame) (before : ℕ) → Counts is_order (event ∷ []) before (orders_behind event before)
+orders_one event before = counts_one is_order event before (orders_behind event before) (is event)
+  where
+    is : (e : Frame) → orders_behind e before ≡ (if is_order e then next_count before else before)
+    is (frames.Bench (events.Order order)) = refl
+    is _ = refl
 
 -- what covered the queue before covers it
 pub covers_same : (a : Stand) → KeepsDeepest a.tally a.tally
@@ -64,12 +81,14 @@ covers_more a b c p q = record { rises = omega (arith, p.rises, q.rises); covers
 counted_more : (events : List Frame) (losses : ℕ) (before a b : Stand) (event whole : Frame) → AreCounted events losses before a → IsWholeOf event whole → IsTallied event a b → AreCounted (events ++ whole ∷ []) (losses + losses_in whole a.device b.device) before b
 counted_more events losses before a b event whole counted is tallied =
     let x = tallied_whole is.room a b event whole is.cut tallied in
-    let u = subst (Unplugs whole a.tally.unplugs) (sym x.unplugs) (unplugs_one whole a.tally.unplugs) in
-    let pushed = unplugs_pushed events whole in
+    let u = counts_more is_unplug events whole before.tally.unplugs a.tally.unplugs b.tally.unplugs (record { rose = counted.unplugged; few = counted.few_unplugs }) (subst (Counts is_unplug (whole ∷ []) a.tally.unplugs) (sym x.unplugs) (unplugs_one whole a.tally.unplugs)) in
+    let o = counts_more is_order events whole before.tally.orders a.tally.orders b.tally.orders (record { rose = counted.ordered; few = counted.few_orders }) (subst (Counts is_order (whole ∷ []) a.tally.orders) (sym x.orders) (orders_one whole a.tally.orders)) in
     record {
       faults = RoseBy-more losses (losses_in whole a.device b.device) before.tally.faults a.tally.faults b.tally.faults counted.faults x.faults;
-      unplugged = subst (λ n. RoseBy n before.tally.unplugs b.tally.unplugs) (sym pushed) (RoseBy-more (unplugs_in events) (unplugs_in (whole ∷ [])) before.tally.unplugs a.tally.unplugs b.tally.unplugs counted.unplugged u.rose);
-      few_unplugs = omega (arith, counted.few_unplugs, u.few, pushed);
+      unplugged = u.rose;
+      few_unplugs = u.few;
+      ordered = o.rose;
+      few_orders = o.few;
       few_calls = omega (arith, counted.few_calls, x.calls, how_many-push is_request events whole, how_many-push is_manage events whole);
       queue = covers_more before a b counted.queue x.queue;
     }
@@ -86,6 +105,8 @@ run_start a idle = record {
     faults = RoseBy-none a.tally.faults;
     unplugged = RoseBy-none a.tally.unplugs;
     few_unplugs = omega arith;
+    ordered = RoseBy-none a.tally.orders;
+    few_orders = omega arith;
     few_calls = let none = ap length idle in omega (arith, none);
     queue = covers_same a;
   };

@@ -12,7 +12,7 @@ use Rattle.satl_core.specs.Layer.{IsUsed, Layer, Tied, view}
 use Rattle.satl_core.specs.Turning.{turn_calls}
 use Rattle.satl_core.proofs.AgreeingLemmas.{agrees_by}
 use Rattle.satl_core.proofs.CountedLemmas.{counted_more, counted_same, tasks_seen}
-use Rattle.satl_step.specs.Events.{IsTallied, unplugs_behind}
+use Rattle.satl_step.specs.Events.{IsTallied, orders_behind, unplugs_behind}
 use Rattle.satl_step.specs.Runs.{Stand, calls_allowed, stand_of}
 use Rattle.satl_step.proofs.RunLemmas.{covers_more, covers_same}
 
@@ -43,13 +43,14 @@ stays_on a b c n m p q =
 -- ---- tallies
 
 -- what an event counts, once its replies were told
-pub tallied : (event : Frame) (l mid l' : Layer) (d d' : DriveState) (calls calls' : ℕ) → l' ≡ record mid { free = l'.free; out = l'.out } → RoseBy (losses_in event (view l d) (view mid d')) d.faults d'.faults → d'.unplugs ≡ unplugs_behind event d.unplugs →
+pub tallied : (event : Frame) (l mid l' : Layer) (d d' : DriveState) (calls calls' : ℕ) → l' ≡ record mid { free = l'.free; out = l'.out } → RoseBy (losses_in event (view l d) (view mid d')) d.faults d'.faults → d'.unplugs ≡ unplugs_behind event d.unplugs → d'.orders ≡ orders_behind event d.orders →
     calls' + turn_calls * length mid.tasks ≤ calls + turn_calls * length l.tasks + calls_allowed (event ∷ []) → Deepens d d' → IsTallied event (stand_of l d calls) (stand_of l' d' calls')
-tallied event l mid l' d d' calls calls' stays faults unplugs few deep =
+tallied event l mid l' d d' calls calls' stays faults unplugs orders few deep =
     let tasks = ap (λ (x : Layer). length x.tasks) stays in
     record {
       faults = subst (λ s. RoseBy (losses_in event (view l d) s) d.faults d'.faults) (sym (view_same mid l' d' stays)) faults;
       unplugs = unplugs;
+      orders = orders;
       calls = omega (arith, few, tasks, tasks_seen l.tasks, tasks_seen l'.tasks);
       queue = record { rises = deep.rises; covers = deep.covers };
     }
@@ -60,17 +61,18 @@ depth_covered l mid l' d d' stays deepens deep covered = let same = ap depth (vi
 
 -- no turn
 pub turns_start : (a : Stand) → IsTallied (frames.Turn 0) a a
-turns_start a = record { faults = counted_same a.device a.device _ _ refl refl; unplugs = refl; calls = omega arith; queue = covers_same a }
+turns_start a = record { faults = counted_same a.device a.device _ _ refl refl; unplugs = refl; orders = refl; calls = omega arith; queue = covers_same a }
 
 -- one turn more
 pub turns_on : (n m k : ℕ) (a b c : Stand) → IsTallied (frames.Turn n) a b → IsTallied (frames.Turn m) b c → IsTallied (frames.Turn k) a c
 turns_on n m k a b c p q = record {
   faults = counted_more a.device b.device c.device _ _ _ p.faults q.faults;
   unplugs = q.unplugs ∙ p.unplugs;
+  orders = q.orders ∙ p.orders;
   calls = omega (arith, p.calls, q.calls);
   queue = covers_more a b c p.queue q.queue;
 }
 
 -- turns of END
 pub end_tallied : (n : ℕ) (a b : Stand) → IsTallied (frames.Turn n) a b → IsTallied frames.End a b
-end_tallied n a b p = record { faults = p.faults; unplugs = p.unplugs; calls = p.calls; queue = p.queue }
+end_tallied n a b p = record { faults = p.faults; unplugs = p.unplugs; orders = p.orders; calls = p.calls; queue = p.queue }

@@ -65,7 +65,8 @@ pub record ReachedEnd {T : Type 0} (told : T → Answer → List ℕ) (behind : 
   pub earlier : List Frame
   pub ends : so_far.events ≡ earlier ++ frames.End ∷ []
 
--- frames were carried out, none of which is END, and what follows them was refused or not read (profile)
+-- frames were carried out, none of which is END, and what follows them was refused or not read, which the reader repeats from
+-- then on (profile)
 pub record Refused {T : Type 0} (told : T → Answer → List ℕ) (behind : T → Answer → T) (before after : LoopState T)
     (why : FrameFault) : Type 0 where
   pub reader : Reading
@@ -73,6 +74,7 @@ pub record Refused {T : Type 0} (told : T → Answer → List ℕ) (behind : T �
   pub requests : ℕ
   pub going : Going told behind before (record after { reader = reader; left = mid }) requests
   pub blames : Blames reader mid after.left why
+  pub repeats : after.reader ≡ record reader { refused = Some why }
 
 -- frames were carried out, none of which is END, and their answers were told; then one frame more was read, which was carried
 -- out or cut short, and a front of its answers was told (profile)

@@ -13,11 +13,12 @@ use Rattle.satl_direct.specs.Run.{RunDeep, RunInPart}
 use Rattle.satl_core.specs.Layer.{Layer, view}
 use Rattle.satl_core.specs.Turning.{off_calls, turn_calls}
 
--- what was counted so far: a drive's faults, how often it was unplugged, the commands that it has, the most that it had at
--- once, and how often it was called (profile)
+-- what was counted so far: a drive's faults, how often it was unplugged, how often order bytes were handed in to it, the
+-- commands that it has, the most that it had at once, and how often it was called (profile)
 pub record Tally : Type 0 where
   pub faults : ℕ
   pub unplugs : ℕ
+  pub orders : ℕ
   pub outstanding : ℕ
   pub deepest : ℕ
   pub calls : ℕ
@@ -25,7 +26,14 @@ pub record Tally : Type 0 where
 -- the same of a drive that was called so often (profile)
 abbrev pub tally_of : DriveState → ℕ → Tally
 tally_of d calls =
-    record { faults = d.faults; unplugs = d.unplugs; outstanding = length d.outstanding; deepest = d.deepest; calls = calls }
+    record {
+      faults = d.faults;
+      unplugs = d.unplugs;
+      orders = d.orders;
+      outstanding = length d.outstanding;
+      deepest = d.deepest;
+      calls = calls;
+    }
 
 -- a drive had at once as many commands as it has (profile)
 abbrev pub IsDeep : Tally → Type 0
@@ -78,18 +86,34 @@ is_unplug _ = false
 abbrev pub unplugs_in : List Frame → ℕ
 unplugs_in events = how_many is_unplug events
 
+-- whether a bench event hands in order bytes (profile)
+abbrev pub hands_in : BenchEvent → Bool
+hands_in (events.Order order) = true
+hands_in _ = false
+
+-- whether an event hands in order bytes (profile)
+abbrev pub is_order : Frame → Bool
+is_order (frames.Bench event) = hands_in event
+is_order _ = false
+
+-- how many of the events hand in order bytes (profile)
+abbrev pub orders_in : List Frame → ℕ
+orders_in events = how_many is_order events
+
 -- events with so many losses were counted: the drive's count of faults rose by the losses at least, or stands at its last
--- value; its number of unplugs rose by the events that unplug it, or stands at its last value; and it was called as often at
--- most as the events allow, but for the turns of the tasks that are left; its deepest queue did not fall (profile)
+-- value; its number of unplugs rose by the events that unplug it, and its number of orders by the events that hand in order
+-- bytes, or it stands at its last value; and it was called as often at most as the events allow, but for the turns of the tasks
+-- that are left; its deepest queue did not fall (profile)
 pub record AreCounted (events : List Frame) (losses : ℕ) (before after : Stand) : Type 0 where
   pub faults : RoseBy losses before.tally.faults after.tally.faults
   pub unplugged : RoseBy (unplugs_in events) before.tally.unplugs after.tally.unplugs
   pub few_unplugs : after.tally.unplugs ≤ before.tally.unplugs + unplugs_in events
+  pub ordered : RoseBy (orders_in events) before.tally.orders after.tally.orders
+  pub few_orders : after.tally.orders ≤ before.tally.orders + orders_in events
   pub few_calls : after.tally.calls + turn_calls * length after.device.tasks ≤ before.tally.calls + calls_allowed events
   pub queue : KeepsDeepest before.tally after.tally
 
--- events were carried out one after the other, from a device without tasks on, and were counted: a group of answers for each
--- (profile)
+-- events were carried out one after the other, and were counted: a group of answers for each (profile)
 pub record RunSoFar (before after : Stand) (events : List Frame) (groups : List (List Answer)) : Type 0 where
   pub losses : ℕ
   pub deep : ℕ

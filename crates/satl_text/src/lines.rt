@@ -132,9 +132,9 @@ fn write_reply<K: Sink>(sink: &mut K, reply: &Reply) -> Result<(), WriteFault>
 }
 
 /// Appends exactly the line of the frame to the bytes of the sink, and none of the magic (profile). A reply's data is cut to
-/// what the host takes, as in its frame. A line of up to 8,192 bytes takes one or two write calls if the sink takes all that it
-/// is given, and a longer one about a call for each 8 KiB. `WriteFault` comes only where the sink's count of faults rose; then
-/// some front of the line was appended.
+/// what the host takes, as in its frame. No clause counts the write calls: a line of up to 8,192 bytes takes one or two where
+/// the sink takes all that it is given, and a longer one about a call for each 8 KiB. `WriteFault` comes only where the sink's
+/// count of faults rose; then some front of the line was appended.
 pub fn write_line<K: Sink>(frame: OutFrame, sink: &mut K) -> Result<(), WriteFault>
     requires { CanWrite frame }
     ensures all { OnOk result (Wrote (K.written sink.old) (K.written sink.new) (frame_line frame.entry)) }
@@ -160,9 +160,9 @@ pub fn write_line<K: Sink>(frame: OutFrame, sink: &mut K) -> Result<(), WriteFau
     }
 }
 
-/// Appends exactly seven lines to the bytes of the sink (profile): the seed of the input and the totals of the run, in one
-/// write call if the sink takes all that it is given. `WriteFault` comes only where the sink's count of faults rose; then some
-/// front of the lines was appended.
+/// Appends exactly seven lines to the bytes of the sink (profile): the seed of the input and the totals of the run. No clause
+/// counts the write calls: it is one where the sink takes all that it is given. `WriteFault` comes only where the sink's count
+/// of faults rose; then some front of the lines was appended.
 pub fn write_summary<K: Sink>(seed: u64, summary: &Summary, sink: &mut K) -> Result<(), WriteFault>
     ensures all { OnOk result (Wrote (K.written sink.old) (K.written sink.new) (summary_lines seed summary.now)) }
     ensures part { OnErr result (WrotePart (K.written sink.old) (K.written sink.new) (summary_lines seed summary.now)) }

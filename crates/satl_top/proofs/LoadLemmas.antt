@@ -42,7 +42,7 @@ module _ (load : Load) (made : List ℕ) (left : Option (List ℕ)) (calls calls
 
   stops_so : (fault : ServeFault) → IsStopped forms.Count input_limit begins ends fault → HasServeCause begins ends fault → (GoesWell begins ends → MayStop begins ends fault) → (source : SourceState) (sink : SinkState) → LoadStops (moment source sink calls old) (moment source sink calls' new) fault
   stops_so (faults.Open fault) n cause may source sink =
-      (record { read = refl; wrote = refl; undisturbed = n.undisturbed; nows = n.nows; unplugs = n.unplugs; one_call = n.one_call }, cause)
+      (record { read = refl; wrote = refl; undisturbed = n.undisturbed; nows = n.nows; unplugs = n.unplugs; orders = n.orders; one_call = n.one_call }, cause)
   stops_so (faults.BadInput reason offset) served cause may source sink =
       may (record { identity = served.first.identity; accepted = served.begins.identity; reads = never_rose; writes = never_rose })
   stops_so faults.Read served cause may source sink = never_rose cause

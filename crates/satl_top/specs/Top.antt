@@ -84,7 +84,7 @@ pub record HasServed (form : Form) (limit : ℕ) (before after : Moment) (status
       → Completes rest before after status
 
 -- the items that were handed in were bridged: what holds by the status, and why it is that one; what is items to its end is
--- bridged whole where all goes well; the drive was not unplugged (profile)
+-- bridged whole where all goes well; the drive was not unplugged, and no order bytes were handed in to it (profile)
 pub record HasBridged (limit : ℕ) (before after : Moment) (status : Status) : Type 0 where
   pub ends : BridgeEnds limit before after status
   pub causes : HasStatusCause before after status
@@ -92,6 +92,7 @@ pub record HasBridged (limit : ℕ) (before after : Moment) (status : Status) : 
   pub complete : (items : List Item) → IsItemInput limit before.source.left items → GoesWell before after
       → Completes [] before after status
   pub unplugs : after.drive.unplugs ≡ before.drive.unplugs
+  pub orders : after.drive.orders ≡ before.drive.orders
 
 -- the record that was handed in was judged: what holds by the status, and why it is that one (profile)
 pub record HasJudged (before after : Moment) (status : Status) : Type 0 where

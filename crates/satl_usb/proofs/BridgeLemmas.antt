@@ -77,6 +77,7 @@ bridged_asked limit a b c t i sense so taken was asks same = record {
   run = subst (λ s. RunSoFar a.stand s so.events so.groups) (sym same) so.run;
   idle = ap (λ (s : Stand). s.device.tasks) same ∙ so.idle;
   unplugs = ap (λ (s : Stand). s.tally.unplugs) same ∙ so.unplugs;
+  orders = ap (λ (s : Stand). s.tally.orders) same ∙ so.orders;
 }
 
 bridged_sent : (limit : ℕ) (a b c : Spot) (t : Talk) (i : Item) (r : Request) → Bridged limit a b t → HasTaken limit a.left c.left (t.items ++ i ∷ []) → is_told_kept t.kept i.command ≡ false → IsWholeOf (frames.Request r) (frames.Request (request_of i)) → (both : BothCarried r b.stand c.stand)
@@ -89,6 +90,7 @@ bridged_sent limit a b c t i r so taken other whole both = record {
   run = run_both a.stand b.stand c.stand so.events so.groups r (request_of i) so.run whole both;
   idle = both.none;
   unplugs = both.turn_tallied.unplugs ∙ (both.arrival_tallied.unplugs ∙ so.unplugs);
+  orders = both.turn_tallied.orders ∙ (both.arrival_tallied.orders ∙ so.orders);
 }
 
 -- ---- the items so far
@@ -104,7 +106,7 @@ pub going_start : (limit : ℕ) (a : Spot) → a.stand.device.tasks ≡ [] → G
 going_start limit a idle = record {
   items = [];
   wire = [];
-  bridged = record { events = []; groups = []; taken = record { took = Took-none a.left; each = tt }; exchange = start; run = run_start a.stand idle; idle = idle; unplugs = refl };
+  bridged = record { events = []; groups = []; taken = record { took = Took-none a.left; each = tt }; exchange = start; run = run_start a.stand idle; idle = idle; unplugs = refl; orders = refl };
   at = refl;
   wrote = Wrote-none a.written;
 }
@@ -184,7 +186,7 @@ within_limit limit offset room end left left' taken t is =
 pub bridged_whole : (limit offset : ℕ) (a b : Spot) (left : Option (List ℕ)) (kept : Option (ArrayVec ℕ)) → IsDeep a.stand.tally → Going limit a b kept offset → WasAtEnd b.left left → BridgedWhole limit a (record b { left = left })
 bridged_whole limit offset a b left kept deep g e = record {
   talk = talk_of g.items g.wire kept;
-  bridged = record { events = g.bridged.events; groups = g.bridged.groups; taken = taken_none limit a.left b.left left g.items g.bridged.taken e.took; exchange = g.bridged.exchange; run = g.bridged.run; idle = g.bridged.idle; unplugs = g.bridged.unplugs };
+  bridged = record { events = g.bridged.events; groups = g.bridged.groups; taken = taken_none limit a.left b.left left g.items g.bridged.taken e.took; exchange = g.bridged.exchange; run = g.bridged.run; idle = g.bridged.idle; unplugs = g.bridged.unplugs; orders = g.bridged.orders };
   at_end = e.end;
   wrote = g.wrote;
   deep = g.bridged.run.covered deep;

@@ -25,6 +25,7 @@ bridged_sooner limit a b s old new same few talk r = record {
   run = sooner s old new same few b.stand r.events r.groups r.run;
   idle = r.idle;
   unplugs = r.unplugs ∙ ap (λ (t : Tally). t.unplugs) same;
+  orders = r.orders ∙ ap (λ (t : Tally). t.orders) same;
 }
 
 -- how the layer was opened and its items were bridged, on a drive that was first so, then opened, and last so

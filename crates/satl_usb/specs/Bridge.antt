@@ -26,7 +26,7 @@ abbrev pub talk_of : List Item → List ℕ → Option (ArrayVec ℕ) → Talk
 talk_of items wire kept = record { items = items; wire = wire; kept = kept }
 
 -- items were taken and carried out: a run of the device over their requests and turns, each of which has exactly one reply; no
--- task is left, and the drive was not unplugged (profile)
+-- task is left; the drive was not unplugged, and no order bytes were handed in to it (profile)
 pub record Bridged (limit : ℕ) (before after : Spot) (talk : Talk) : Type 0 where
   pub events : List Frame
   pub groups : List (List Answer)
@@ -35,6 +35,7 @@ pub record Bridged (limit : ℕ) (before after : Spot) (talk : Talk) : Type 0 wh
   pub run : RunSoFar before.stand after.stand events groups
   pub idle : after.stand.device.tasks ≡ []
   pub unplugs : after.stand.tally.unplugs ≡ before.stand.tally.unplugs
+  pub orders : after.stand.tally.orders ≡ before.stand.tally.orders
 
 -- all of the input was items, and what these are on the wire was written; the drive had at once as many commands as the device
 -- let it have (profile)

@@ -32,9 +32,10 @@ use std::sync::ledger::Ledger;
 /// the offset, in bytes, is no item; the items before it were carried out, and nothing is written for it. Of what stands there
 /// exactly 31 bytes were taken, and behind a good wrapper whose item would end within 2^40 bytes the data that it tells, or all
 /// where there are fewer. `Read` and `Write` come only where the source's or the sink's count of faults rose; at `Read` fewer
-/// bytes were taken than these. At every answer the drive was not unplugged. An input that is items to its end is carried out
-/// whole, where no count of faults rises and the drive is not refused, or there is no memory before anything is read. No memory
-/// is taken behind the opening (USB Mass Storage Class, Bulk-Only Transport 1.0, 5; profile).
+/// bytes were taken than these. At every answer the drive was not unplugged, and no order bytes were handed in to it. An input
+/// that is items to its end is carried out whole, where no count of faults rises and the drive is not refused, or there is no
+/// memory before anything is read. No memory is taken behind the opening (USB Mass Storage Class, Bulk-Only Transport 1.0, 5;
+/// profile).
 pub fn serve_usb<S: Source, K: Sink, D: Bench, L: Ledger>(
     alloc: Global,
     source: &mut S,
@@ -59,6 +60,7 @@ pub fn serve_usb<S: Source, K: Sink, D: Bench, L: Ledger>(
         (moment (source_state (S.left source.new) (S.faults source.new)) (sink_state (K.written sink.new) (K.faults sink.new))
         steps.new (D.state drive.new))) }
     ensures unplugs { (D.state drive.new).unplugs ≡ (D.state drive.old).unplugs }
+    ensures orders { (D.state drive.new).orders ≡ (D.state drive.old).orders }
     ensures refused { (fault : IdentityFault) → IsDriveRefused fault (D.state drive.old) (D.state drive.new)
         → IsErrAnd result (TellsRefusal fault) }
     ensures complete { (items : List Item) → IsItemInput input_limit (S.left source.old) items
@@ -96,6 +98,7 @@ fn serve_items<S: Source, K: Sink, D: Bench, L: Ledger>(
         (source_state (S.left source.new) (S.faults source.new)) (sink_state (K.written sink.old) (K.faults sink.old))
         (sink_state (K.written sink.new) (K.faults sink.new))) }
     ensures unplugs { (D.state drive.new).unplugs ≡ (D.state drive.old).unplugs }
+    ensures orders { (D.state drive.new).orders ≡ (D.state drive.old).orders }
 {
     let mut replies = Replies::new(alloc);
     let mut kept = None;

@@ -2,12 +2,12 @@
 // others answer as before.
 ghost use Rattle.std.specs.Prelude.{◌≡◌, ◌≤◌, false, length};
 ghost use Rattle.satl_base.specs.Lists.{is_in};
-ghost use Rattle.satl_disk.specs.Bench.{fitting_words};
+ghost use Rattle.satl_disk.specs.Bench.{fitting_words, unqueued_words};
 
 use crate::frames::{
-    END, ENDED, TURN, command, good, input, output, read, request, write, write_and_read,
+    END, ENDED, TURN, check, command, good, input, output, read, request, write, write_and_read,
 };
-use crate::replaying::{pieces, replay, replay_changed};
+use crate::replaying::{pieces, replay, replay_changed, replay_changed_unqueued};
 use satl_io::{MemorySource, Source};
 use satl_top::Status;
 use std::alloc::{AllocError, Global};
@@ -25,6 +25,19 @@ const CAPACITY_16: [u8; 16] = [0x9E, 0x10, 0, 0, 0, 0, 0, 0, 0, 0, 0, 0, 0, 32, 
 
 // MODE SENSE(6) for all pages.
 const MODE_SENSE: [u8; 16] = [0x1A, 0, 0x3F, 0, 0xFF, 0, 0, 0, 0, 0, 0, 0, 0, 0, 0, 0];
+
+// MODE SENSE(6) for the Caching page: current values, and the bits that can change.
+const CACHING: [u8; 16] = [0x1A, 0, 0x08, 0, 0xFF, 0, 0, 0, 0, 0, 0, 0, 0, 0, 0, 0];
+
+const CACHING_CHANGEABLE: [u8; 16] = [0x1A, 0, 0x48, 0, 0xFF, 0, 0, 0, 0, 0, 0, 0, 0, 0, 0, 0];
+
+// UNMAP with a list of 24 bytes, and WRITE SAME(10) of a block that unmaps it.
+const UNMAP: [u8; 16] = [0x42, 0, 0, 0, 0, 0, 0, 0, 24, 0, 0, 0, 0, 0, 0, 0];
+
+const UNMAPPING: [u8; 16] = [0x41, 0x08, 0, 0, 0, 0, 0, 0, 1, 0, 0, 0, 0, 0, 0, 0];
+
+// POWER.
+const POWER: [u8; 6] = [0x04, 0, 0, 0, 1, 5];
 
 // Where the IDENTIFY DEVICE data stand in an output with one reply, of ATA Information (page 89h): behind the magic, the head
 // of the frame and 60 bytes of the page.
@@ -259,4 +272,115 @@ fn capacity_tells_the_physical_sectors(rt: HostRuntime) -> Result<(), Fail> {
         expect_told(&rt, rt.alloc(), 106, value, CAPACITY_16, &data_in)?;
     }
     Ok(())
+}
+
+/// The Caching page behind the header, which tells 31 bytes behind its first and DPOFUA, and behind the block descriptor, of
+/// 8,192 blocks of 512 bytes.
+fn caching(wce: u8, dra: u8) -> [u8; 32] {
+    let mut data_in = [0; 32];
+    data_in[..14].copy_from_slice(&[0x1F, 0, 0x10, 8, 0, 0, 0x20, 0, 0, 0, 2, 0, 0x08, 0x12]);
+    data_in[14] = wce;
+    data_in[24] = dra;
+    data_in
+}
+
+/// Without a write cache WCE is 0, and without look-ahead DRA is 1; a host can change neither where it is so.
+#[test]
+fn mode_sense_tells_what_a_drive_without_cache_or_look_ahead_has(
+    rt: HostRuntime,
+) -> Result<(), Fail> {
+    let alloc = rt.alloc();
+    for (value, wce, dra, look) in [
+        (0x0001, 0, 0x20, 0),
+        (0x0021, 0x04, 0x20, 0),
+        (0x0041, 0, 0, 0x20),
+    ] {
+        expect_told(&rt, alloc, 82, value, CACHING, &caching(wce, dra))?;
+        expect_told(
+            &rt,
+            alloc,
+            82,
+            value,
+            CACHING_CHANGEABLE,
+            &caching(wce, look),
+        )?;
+    }
+    Ok(())
+}
+
+/// What a replay writes of a block that is written, a loss of power at which each dirty sector would lose it, a TEST UNIT READY
+/// that tells of it, and a read of that block.
+fn expect_kept(rt: &impl Abort, alloc: Global, value: u16, kept: u8) -> Result<(), Fail> {
+    let mut frames = input(alloc)?;
+    request(&mut frames, write(1, 8, 1), &[0xA5; 512])?;
+    frames.extend_from_slice(&TURN)?;
+    frames.extend_from_slice(&POWER)?;
+    command(&mut frames, 2, [0; 16])?;
+    request(&mut frames, read(3, 8, 1), &[])?;
+    frames.extend_from_slice(&END)?;
+    let mut replies = output(alloc)?;
+    good(&mut replies, 1, &[])?;
+    replies.extend_from_slice(&[0x81, 0, 0, 0, 25, 0, 2, 0, 0, 0, 2, 18])?;
+    replies.extend_from_slice(&[0x70, 0, 6, 0, 0, 0, 0, 10, 0, 0, 0, 0, 0x29, 1, 0, 0, 0, 0])?;
+    good(&mut replies, 3, &[kept; 512])?;
+    replies.extend_from_slice(&ENDED)?;
+    let written = answers(rt, alloc, 82, value, &frames)?;
+    assert_eq!(rt;
+        written.as_slice(),
+        replies.as_slice(),
+        "word 82 is {value}"
+    );
+    Ok(())
+}
+
+/// A block that was written through a cache is lost with the power, where no byte of ORDER waits, and one that was written
+/// without a cache is not.
+#[test]
+fn a_drive_without_cache_loses_nothing(rt: HostRuntime) -> Result<(), Fail> {
+    let alloc = rt.alloc();
+    expect_kept(&rt, alloc, 0x0061, 0x00)?;
+    expect_kept(&rt, alloc, 0x0041, 0xA5)?;
+    expect_kept(&rt, alloc, 0x0001, 0xA5)
+}
+
+/// A drive that queues no trims, and by this word has none: Logical Block Provisioning, READ CAPACITY(16) and Block Limits tell
+/// none, UNMAP is no operation code, and WRITE SAME may not unmap.
+fn expect_trimless(rt: &impl Abort, alloc: Global, word: u8, value: u16) -> Result<(), Fail>
+    requires { is_in word unqueued_words ≡ false }
+{
+    let mut frames = input(alloc)?;
+    for cdb in [vital(0xB2), CAPACITY_16, vital(0xB0), UNMAP, UNMAPPING] {
+        command(&mut frames, 1, cdb)?;
+    }
+    frames.extend_from_slice(&END)?;
+    let mut replies = output(alloc)?;
+    good(&mut replies, 1, &[0, 0xB2, 0, 4, 0, 0x00, 0, 0])?;
+    let mut capacity = [0; 32];
+    capacity[..14].copy_from_slice(&[0, 0, 0, 0, 0, 0, 0x1F, 0xFF, 0, 0, 2, 0, 0, 3]);
+    good(&mut replies, 1, &capacity)?;
+    let mut limits = [0; 64];
+    limits[..12].copy_from_slice(&[0, 0xB0, 0, 0x3C, 1, 0, 0, 0, 0, 0, 0x10, 0]);
+    limits[41] = 1;
+    good(&mut replies, 1, &limits)?;
+    check(&mut replies, 1, 0x5, 0x20, [0; 3])?;
+    check(&mut replies, 1, 0x5, 0x24, [0xC0, 0, 1])?;
+    replies.extend_from_slice(&ENDED)?;
+    let mut source = MemorySource::new(frames, 65536, Vec::new(alloc));
+    let (ended, written) = replay_changed_unqueued(alloc, word, value, &mut source)?;
+    assert_eq!(rt; ended, Status::Done, "word {word} is {value}");
+    assert_eq!(rt;
+        written.as_slice(),
+        replies.as_slice(),
+        "word {word} is {value}"
+    );
+    Ok(())
+}
+
+/// Word 169 without TRIM; word 69 without reads of trimmed sectors that tell the same each time, or that give zeros.
+#[test]
+fn a_drive_without_trim_tells_none(rt: HostRuntime) -> Result<(), Fail> {
+    let alloc = rt.alloc();
+    expect_trimless(&rt, alloc, 169, 0x0000)?;
+    expect_trimless(&rt, alloc, 69, 0x0020)?;
+    expect_trimless(&rt, alloc, 69, 0x4000)
 }

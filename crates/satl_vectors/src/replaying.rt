@@ -2,7 +2,7 @@
 ghost use Rattle.std.specs.Prelude.{◌≡◌, ◌≤◌, IfOk, false, map, vec_len};
 ghost use Rattle.std.specs.List.{AllByRecursion};
 ghost use Rattle.satl_base.specs.Lists.{is_in};
-ghost use Rattle.satl_disk.specs.Bench.{fitting_words};
+ghost use Rattle.satl_disk.specs.Bench.{fitting_words, unqueued_words};
 ghost use Rattle.satl_disk.specs.Disk.{state_of};
 ghost use Rattle.satl_barrier.specs.Leaving.{IsFree};
 
@@ -129,7 +129,19 @@ pub fn run(
     run_on(alloc, given, input, streams, &mut drives)
 }
 
-/// How a replay of a source ends, and what it writes, on a drive with this value in this word of its IDENTIFY DEVICE data.
+/// How a replay of a source ends, and what it writes, on this drive.
+fn replay_on(
+    alloc: Global,
+    drive: ModelDrive,
+    source: &mut MemorySource,
+) -> Result<(Status, Vec<u8>), NoMemory>
+    requires { IsFree (state_of drive) }
+{
+    let mut drives = alone(alloc, drive)?;
+    run_over(alloc, &["replay"], source, pieces(65536), &mut drives)
+}
+
+/// The same on a drive with this value in this word of its IDENTIFY DEVICE data.
 pub fn replay_changed(
     alloc: Global,
     word: u8,
@@ -140,8 +152,22 @@ pub fn replay_changed(
 {
     let mut drive = ModelDrive::new(alloc, 8192)?;
     drive.set_identify_word(word, value);
-    let mut drives = alone(alloc, drive)?;
-    run_over(alloc, &["replay"], source, pieces(65536), &mut drives)
+    replay_on(alloc, drive, source)
+}
+
+/// The same on a drive whose trims are not queued, with this value in this word besides.
+pub fn replay_changed_unqueued(
+    alloc: Global,
+    word: u8,
+    value: u16,
+    source: &mut MemorySource,
+) -> Result<(Status, Vec<u8>), NoMemory>
+    requires { is_in word unqueued_words ≡ false }
+{
+    let mut drive = ModelDrive::new(alloc, 8192)?;
+    drive.set_identify_word(77, 0);
+    drive.set_identify_word(word, value);
+    replay_on(alloc, drive, source)
 }
 
 /// What a replay of an input writes on a drive whose trims are not queued.

@@ -27,7 +27,7 @@ pub returns-in-Err-clause-stopped : goal.returns-in-Err-clause-stopped
 returns-in-Err-clause-stopped g c = cause_more g.D.Drive.state (map g.D.Drive.state c.args.drives.now.items) c.loop-k.units.items c.loop-k.drives.items c.loop-k.k c.index_mut-drive.result.now c.loop-k.invariant.opened (omega (arith, c.loop-k.invariant.units, c.loop-k.units.ok.0)) (omega (arith, c.loop-k-test.true, c.loop-k.invariant.drives, c.loop-k.drives.ok.0)) c.index_mut-drive.ensures.value c.open.new.drive c.in-Err.fault c.in-Err.ensures.cause
 
 pub returns-in-Err-clause-alone : goal.returns-in-Err-clause-alone
-returns-in-Err-clause-alone g c = alone_more g.D.Drive.state (map g.D.Drive.state c.args.drives.now.items) c.loop-k.units.items c.loop-k.drives.items c.loop-k.k c.index_mut-drive.result.now c.loop-k.invariant.opened (omega (arith, c.loop-k.invariant.units, c.loop-k.units.ok.0)) (omega (arith, c.loop-k-test.true, c.loop-k.invariant.drives, c.loop-k.drives.ok.0)) c.index_mut-drive.ensures.value c.open.new.drive (record { undisturbed = c.in-Err.ensures.alone; nows = c.in-Err.ensures.nows; unplugs = c.in-Err.ensures.unplugs })
+returns-in-Err-clause-alone g c = alone_more g.D.Drive.state (map g.D.Drive.state c.args.drives.now.items) c.loop-k.units.items c.loop-k.drives.items c.loop-k.k c.index_mut-drive.result.now c.loop-k.invariant.opened (omega (arith, c.loop-k.invariant.units, c.loop-k.units.ok.0)) (omega (arith, c.loop-k-test.true, c.loop-k.invariant.drives, c.loop-k.drives.ok.0)) c.index_mut-drive.ensures.value c.open.new.drive (record { undisturbed = c.in-Err.ensures.alone; nows = c.in-Err.ensures.nows; unplugs = c.in-Err.ensures.unplugs; orders = c.in-Err.ensures.orders })
 
 pub loop-k-preserved : goal.loop-k-preserved
 loop-k-preserved g c = record {

@@ -10,6 +10,7 @@ returns-in-Ok g c = record {
   refused = λ fault refused. absurd (c.in-Ok.ensures.refused fault refused);
   complete = c.in-Ok.ensures.complete;
   unplugs = c.in-Ok.ensures.unplugs;
+  orders = c.in-Ok.ensures.orders;
 }
 
 pub returns-in-Err : goal.returns-in-Err
@@ -23,4 +24,5 @@ returns-in-Err g c =
       refused = λ refusal refused. bridge_refuses before after c.in-Err.fault c.from.result c.from.ensures refusal (e.refused refusal refused);
       complete = λ items input well. bridge_completes before after c.in-Err.fault c.from.result c.from.ensures (e.complete items input well);
       unplugs = e.unplugs;
+      orders = e.orders;
     }

@@ -52,6 +52,9 @@ returns-in-Err-answer_item-clause-bridges g c = record { whole = tt; stopped = s
 pub returns-in-Err-answer_item-clause-unplugs : goal.returns-in-Err-answer_item-clause-unplugs
 returns-in-Err-answer_item-clause-unplugs g c = (stopped_in_part input_limit c.items.offset c.items.satl.free (spot (g.S.Source.left c.args.source.now) (g.K.Sink.written c.args.sink.now) (stand_of c.args.satl.now (g.D.Drive.state c.args.drive.now) c.args.steps.now)) (spot (g.S.Source.left c.items.source) (g.K.Sink.written c.items.sink) (stand_of c.next_item.new.lender (g.D.Drive.state c.items.drive) c.items.steps)) (spot (g.S.Source.left c.next_item.new.source) (g.K.Sink.written c.answer_item.new.sink) (stand_of c.answer_item.new.satl (g.D.Drive.state c.answer_item.new.drive) c.answer_item.new.steps)) c.items.kept c.in-Ok-Some.item (going_same input_limit (spot (g.S.Source.left c.args.source.now) (g.K.Sink.written c.args.sink.now) (stand_of c.args.satl.now (g.D.Drive.state c.args.drive.now) c.args.steps.now)) (spot (g.S.Source.left c.items.source) (g.K.Sink.written c.items.sink) (stand_of c.items.satl (g.D.Drive.state c.items.drive) c.items.steps)) (stand_of c.next_item.new.lender (g.D.Drive.state c.items.drive) c.items.steps) c.items.kept c.items.offset (ap (λ (l : Layer). stand_of l (g.D.Drive.state c.items.drive) c.items.steps) c.in-Ok-Some.ensures.lent.rest) c.items.invariant.going) (subst (ItemRead input_limit c.items.offset c.items.satl.free (g.S.Source.left c.items.source) (g.S.Source.left c.next_item.new.source)) c.in-Ok-Some.field-0-is c.in-Ok-Some.ensures.read) c.in-Err-answer_item.ensures.answered.part).bridged.unplugs
 
+pub returns-in-Err-answer_item-clause-orders : goal.returns-in-Err-answer_item-clause-orders
+returns-in-Err-answer_item-clause-orders g c = (stopped_in_part input_limit c.items.offset c.items.satl.free (spot (g.S.Source.left c.args.source.now) (g.K.Sink.written c.args.sink.now) (stand_of c.args.satl.now (g.D.Drive.state c.args.drive.now) c.args.steps.now)) (spot (g.S.Source.left c.items.source) (g.K.Sink.written c.items.sink) (stand_of c.next_item.new.lender (g.D.Drive.state c.items.drive) c.items.steps)) (spot (g.S.Source.left c.next_item.new.source) (g.K.Sink.written c.answer_item.new.sink) (stand_of c.answer_item.new.satl (g.D.Drive.state c.answer_item.new.drive) c.answer_item.new.steps)) c.items.kept c.in-Ok-Some.item (going_same input_limit (spot (g.S.Source.left c.args.source.now) (g.K.Sink.written c.args.sink.now) (stand_of c.args.satl.now (g.D.Drive.state c.args.drive.now) c.args.steps.now)) (spot (g.S.Source.left c.items.source) (g.K.Sink.written c.items.sink) (stand_of c.items.satl (g.D.Drive.state c.items.drive) c.items.steps)) (stand_of c.next_item.new.lender (g.D.Drive.state c.items.drive) c.items.steps) c.items.kept c.items.offset (ap (λ (l : Layer). stand_of l (g.D.Drive.state c.items.drive) c.items.steps) c.in-Ok-Some.ensures.lent.rest) c.items.invariant.going) (subst (ItemRead input_limit c.items.offset c.items.satl.free (g.S.Source.left c.items.source) (g.S.Source.left c.next_item.new.source)) c.in-Ok-Some.field-0-is c.in-Ok-Some.ensures.read) c.in-Err-answer_item.ensures.answered.part).bridged.orders
+
 pub items-preserved : goal.items-preserved
 items-preserved g c = record {
   tied = c.in-Ok.ensures.leaves.tied;

@@ -1,4 +1,4 @@
-use Rattle.std.proofs.Common.{◌≡◌, ◌∙◌, ◌<◌, ◌≤◌, ap, sym, length, slice_range, rules, ◌++◌, ◌∷◌, []}
+use Rattle.std.proofs.Common.{◌≡◌, ◌∙◌, ◌<◌, ◌≤◌, ap, length, slice_range, rules, ◌++◌, ◌∷◌, []}
 use Rattle.satl_base.proofs.SequenceLemmas.{part-at_front, part-pushed}
 use Rattle.satl_base.proofs.sequence.Sequence.push.Goals.{then-self, else-self}
 use Rattle.satl_base.proofs.sequence.Sequence.push.Goals as goal
@@ -10,8 +10,8 @@ returns g c =
     let same : slice_range s.places s.start s.end ≡ c.args.self.now =
     elim c.if-self.branch [
       | then-self w ↦
-          let moved = part-at_front old.places old.start old.end c.self.invariant.0 (w.if-self.true ∙ sym c.self.told) in
-          rw (w.self-inside-is, w.rotate_left.ensures.after) (moved ∙ c.self.view_is)
+          let moved = part-at_front old.places old.start old.end c.self.invariant.0 (search rules) in
+          rw (w.self-inside-is, w.copy_within.ensures.after) (moved ∙ c.self.view_is)
       | else-self w ↦ rw w.self-inside-is c.self.view_is
     ]
     in

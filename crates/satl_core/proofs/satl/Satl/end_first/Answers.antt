@@ -161,7 +161,7 @@ returns-in-Ok-clause-agrees g c =
 
 pub returns-in-Ok-clause-kept : goal.returns-in-Ok-clause-kept
 returns-in-Ok-clause-kept g c =
-    kept_same c.args.self.now _ _ _ (c.in-Ok.ensures.up ∙ (ap (λ (l : Layer). l.down) c.self.view_is ∙ c.requires.tied.agrees.mark)) c.in-Ok.ensures.faults c.run_task.ensures.stays.unplugs
+    kept_same c.args.self.now _ _ _ (c.in-Ok.ensures.up ∙ (ap (λ (l : Layer). l.down) c.self.view_is ∙ c.requires.tied.agrees.mark)) c.in-Ok.ensures.faults c.run_task.ensures.stays.unplugs c.run_task.ensures.stays.orders
     (alone_deepens c.args.self.now _ _ c.requires.tied.agrees c.requires.idle c.run_task.ensures.stays)
 
 pub returns-in-Ok-clause-pages : goal.returns-in-Ok-clause-pages
@@ -213,7 +213,7 @@ returns-in-Err-clause-agrees g c =
 
 pub returns-in-Err-clause-kept : goal.returns-in-Err-clause-kept
 returns-in-Err-clause-kept g c =
-    kept_rose c.args.self.now _ _ _ c.in-Err.ensures.lost.lost.rose c.run_task.ensures.stays.unplugs (alone_deepens c.args.self.now _ _ c.requires.tied.agrees c.requires.idle c.run_task.ensures.stays)
+    kept_rose c.args.self.now _ _ _ c.in-Err.ensures.lost.lost.rose c.run_task.ensures.stays.unplugs c.run_task.ensures.stays.orders (alone_deepens c.args.self.now _ _ c.requires.tied.agrees c.requires.idle c.run_task.ensures.stays)
 
 pub returns-in-Err-clause-pages : goal.returns-in-Err-clause-pages
 returns-in-Err-clause-pages g c =

@@ -112,7 +112,7 @@ returns-in-Err-clause-agrees g c =
     (lost_layer was (layer_of i.identity i.modes i.started i.down i.attentions c.settle_one.new.self i.pool) c.lose.new.self refl c.in-Err.ensures.emptied c.lose.ensures.stays)).agrees
 
 pub returns-in-Err-clause-kept : goal.returns-in-Err-clause-kept
-returns-in-Err-clause-kept g c = kept_rose _ _ _ _ c.in-Err.ensures.err.rose (ap (λ (x : Rattle.satl_drive.specs.State.DriveState). x.unplugs) c.in-Err.ensures.err.stays) c.in-Err.ensures.err.deep
+returns-in-Err-clause-kept g c = kept_rose _ _ _ _ c.in-Err.ensures.err.rose (ap (λ (x : Rattle.satl_drive.specs.State.DriveState). x.unplugs) c.in-Err.ensures.err.stays) (ap (λ (x : Rattle.satl_drive.specs.State.DriveState). x.orders) c.in-Err.ensures.err.stays) c.in-Err.ensures.err.deep
 
 pub returns-in-Err-clause-pages : goal.returns-in-Err-clause-pages
 returns-in-Err-clause-pages g c =
