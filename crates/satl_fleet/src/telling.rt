@@ -28,10 +28,7 @@ fn write_unit<K: Sink>(unit: u8, sink: &mut K) -> Result<(), WriteFault>
     ensures part { OnErr result (WrotePart (K.written sink.old) (K.written sink.new) (unit_bytes unit)) }
     ensures cause { HasCause (K.faults sink.old) (K.faults sink.new) result }
 {
-    match push(sink, &[UNIT_KIND, 0, 0, 0, 1, unit]) {
-        Ok(()) => Ok(()),
-        Err(_) => Err(WriteFault),
-    }
+    push(sink, &[UNIT_KIND, 0, 0, 0, 1, unit])
 }
 
 impl UnitTeller {

@@ -3,6 +3,7 @@ ghost use Rattle.std.specs.Prelude.{◌≡◌};
 ghost use Rattle.satl_frame.specs.Faults.{reason_code};
 
 use satl_base::{BenchEvent, Manage, Nexus, Reply, Request, Response, Tag};
+use satl_io::Failed;
 
 /// What the magic of an input begins with (profile). Behind it stands the version.
 pub const MAGIC_NAME: [u8; 7] = *b"SATLRPL";
@@ -205,3 +206,9 @@ pub enum OutFrame<'a> {
 /// A write failed, and a front of the frame's bytes was written (profile).
 #[derive(Clone, Copy, Debug, PartialEq, Eq)]
 pub struct WriteFault;
+
+impl From<Failed> for WriteFault {
+    fn from(_: Failed) -> WriteFault {
+        WriteFault
+    }
+}

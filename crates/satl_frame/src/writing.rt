@@ -1,5 +1,5 @@
 // Bytes of frames into a sink, in few writes.
-ghost use Rattle.std.specs.Prelude.{◌≡◌, ◌≤◌, ◌+◌, ◌++◌, [], None, Some, OnOk, OnErr, is_ok, length};
+ghost use Rattle.std.specs.Prelude.{◌≡◌, ◌≤◌, ◌+◌, ◌++◌, [], None, Some, OnOk, OnErr, length};
 ghost use Rattle.arrayvec.specs.ArrayVec.{array_vec_len};
 ghost use Rattle.satl_base.specs.Blocks.{first_bytes};
 ghost use Rattle.satl_base.specs.Limits.{longest_data};
@@ -16,55 +16,55 @@ use crate::frames::{
 };
 use arrayvec::ArrayVec;
 use satl_base::{Pages, Reply, append};
-use satl_io::{Failed, Sink};
+use satl_io::Sink;
 
 /// What stands before the data of a reply: 12 or 16 bytes, and at most 32 of sense.
 type Front = ArrayVec<u8, 48>;
 
 /// Writes all the bytes (profile). No clause counts the write calls: it is one where the sink takes all that it is given.
-/// `Failed` comes only where the sink's count of faults rose, and then some front of the bytes was written.
-pub fn push<K: Sink>(sink: &mut K, bytes: &[u8]) -> Result<(), Failed>
+/// `WriteFault` comes only where the sink's count of faults rose, and then some front of the bytes was written.
+pub fn push<K: Sink>(sink: &mut K, bytes: &[u8]) -> Result<(), WriteFault>
     ensures all { OnOk result (Wrote (K.written sink.old) (K.written sink.new) bytes.now) }
     ensures part { OnErr result (WrotePart (K.written sink.old) (K.written sink.new) bytes.now) }
     ensures cause { HasCause (K.faults sink.old) (K.faults sink.new) result }
 {
     let mut at = 0;
     while at < bytes.len() {
-        match sink.write(&bytes[at..]) {
-            Ok(count) => at += count,
-            Err(Failed) => return Err(Failed),
-        }
+        at += sink.write(&bytes[at..])?;
     }
     Ok(())
 }
 
 /// Puts at most 8,192 bytes into a buffer (profile). Of what waits in it, some front may be written, as is where they do not
-/// fit. `Failed` comes only where the sink's count of faults rose; then some front of what waited and of the bytes was written,
-/// and of the buffer nothing is told.
-pub fn gather<K: Sink>(sink: &mut K, buffer: &mut WriteBuffer, bytes: &[u8]) -> Result<(), Failed>
+/// fit. `WriteFault` comes only where the sink's count of faults rose; then some front of what waited and of the bytes was
+/// written, and of the buffer nothing is told.
+pub fn gather<K: Sink>(
+    sink: &mut K,
+    buffer: &mut WriteBuffer,
+    bytes: &[u8],
+) -> Result<(), WriteFault>
     requires { length bytes.now ≤ 8192 }
     ensures all { OnOk result (Gathers (K.written sink.old) (K.written sink.new) buffer.old buffer.new bytes.now) }
     ensures part { OnErr result (WrotePart (K.written sink.old) (K.written sink.new) (buffer.old ++ bytes.now)) }
     ensures cause { HasCause (K.faults sink.old) (K.faults sink.new) result }
 {
     if bytes.len() > buffer.room() {
-        match push(sink, buffer.as_slice()) {
-            Ok(()) => buffer.clear(),
-            Err(Failed) => return Err(Failed),
-        }
+        push(sink, buffer.as_slice())?;
+        buffer.clear();
     }
     buffer.put(bytes);
     Ok(())
 }
 
-/// Puts the first `len` bytes that the pages hold into a buffer, in order (profile). `Failed` comes only where the sink's count
-/// of faults rose; then some front of what waited in it and of these bytes was written, and of the buffer nothing is told.
+/// Puts the first `len` bytes that the pages hold into a buffer, in order (profile). `WriteFault` comes only where the sink's
+/// count of faults rose; then some front of what waited in it and of these bytes was written, and of the buffer nothing is
+/// told.
 pub fn gather_data<K: Sink>(
     sink: &mut K,
     buffer: &mut WriteBuffer,
     pages: &Pages,
     len: u32,
-) -> Result<(), Failed>
+) -> Result<(), WriteFault>
     ensures all { OnOk result (Gathers (K.written sink.old) (K.written sink.new) buffer.old buffer.new
         (first_bytes len pages.now)) }
     ensures part { OnErr result (WrotePart (K.written sink.old) (K.written sink.new)
@@ -72,10 +72,7 @@ pub fn gather_data<K: Sink>(
     ensures cause { HasCause (K.faults sink.old) (K.faults sink.new) result }
 {
     for piece in pages.pieces(len) {
-        match gather(sink, buffer, piece) {
-            Ok(()) => {}
-            Err(Failed) => return Err(Failed),
-        }
+        gather(sink, buffer, piece)?;
     }
     Ok(())
 }
@@ -152,7 +149,7 @@ fn write_with_data<K: Sink>(
     front: &Front,
     pages: &Pages,
     len: u32,
-) -> Result<(), Failed>
+) -> Result<(), WriteFault>
     ensures all { OnOk result (Wrote (K.written sink.old) (K.written sink.new) (front.now.items ++ first_bytes len pages.now)) }
     ensures part { OnErr result (WrotePart (K.written sink.old) (K.written sink.new)
         (front.now.items ++ first_bytes len pages.now)) }
@@ -160,33 +157,8 @@ fn write_with_data<K: Sink>(
 {
     buffer.clear();
     buffer.put(front.as_slice());
-    match gather_data(sink, buffer, pages, len) {
-        Ok(()) => match push(sink, buffer.as_slice()) {
-            Ok(()) => Ok(()),
-            Err(Failed) => Err(Failed),
-        },
-        Err(Failed) => Err(Failed),
-    }
-}
-
-/// What stands before the data of a reply, and the data.
-fn write_parts<K: Sink>(sink: &mut K, buffer: &mut WriteBuffer, reply: &Reply) -> Result<(), Failed>
-    requires { IsWritable reply.now }
-    ensures all { OnOk result (Wrote (K.written sink.old) (K.written sink.new) (reply_bytes reply.now)) }
-    ensures part { OnErr result (WrotePart (K.written sink.old) (K.written sink.new) (reply_bytes reply.now)) }
-    ensures cause { HasCause (K.faults sink.old) (K.faults sink.new) result }
-{
-    let mut front = Front::new();
-    extend_by_fields(reply, &mut front);
-    append(&mut front, reply.sense.as_slice());
-    let len = sent_len(reply.expected, reply.data_len);
-    if len > 0 {
-        return write_with_data(sink, buffer, &front, &reply.body, len);
-    }
-    match push(sink, front.as_slice()) {
-        Ok(()) => Ok(()),
-        Err(Failed) => Err(Failed),
-    }
+    gather_data(sink, buffer, pages, len)?;
+    push(sink, buffer.as_slice())
 }
 
 /// Appends exactly the bytes of a reply's frame, as `write_frame` does, for who writes many and keeps a buffer for them: no
@@ -202,7 +174,14 @@ pub fn write_reply<K: Sink>(
     ensures part { OnErr result (WrotePart (K.written sink.old) (K.written sink.new) (reply_bytes reply.now)) }
     ensures cause { HasCause (K.faults sink.old) (K.faults sink.new) result }
 {
-    told(write_parts(sink, buffer, reply))
+    let mut front = Front::new();
+    extend_by_fields(reply, &mut front);
+    append(&mut front, reply.sense.as_slice());
+    let len = sent_len(reply.expected, reply.data_len);
+    if len > 0 {
+        return write_with_data(sink, buffer, &front, &reply.body, len);
+    }
+    push(sink, front.as_slice())
 }
 
 /// The same by a buffer of its own. Apart from `write_frame`, which would clear it for frames of all kinds.
@@ -227,7 +206,7 @@ pub fn write_frame<K: Sink>(frame: OutFrame, sink: &mut K) -> Result<(), WriteFa
     ensures cause { HasCause (K.faults sink.old) (K.faults sink.new) result }
 {
     match frame {
-        OutFrame::Magic => told(push(sink, &OUT_MAGIC)),
+        OutFrame::Magic => push(sink, &OUT_MAGIC),
         OutFrame::Reply(reply) => write_alone(reply, sink),
         OutFrame::Managed {
             nexus,
@@ -238,29 +217,19 @@ pub fn write_frame<K: Sink>(frame: OutFrame, sink: &mut K) -> Result<(), WriteFa
             let [a, b, c, d] = tag.0.to_be_bytes();
             let code = response.code();
             let kind = MANAGED_KIND;
-            told(push(
+            push(
                 sink,
                 &[kind, 0, 0, 0, 7, nexus.number(), function, code, a, b, c, d],
-            ))
+            )
         }
-        OutFrame::End => told(push(sink, &[OUT_END_KIND, 0, 0, 0, 0])),
+        OutFrame::End => push(sink, &[OUT_END_KIND, 0, 0, 0, 0]),
         OutFrame::Fault { reason, offset } => {
             let [a, b, c, d, e, f, g, h] = offset.to_be_bytes();
             let code = reason.code();
-            told(push(
+            push(
                 sink,
                 &[FAULT_KIND, 0, 0, 0, 9, code, a, b, c, d, e, f, g, h],
-            ))
+            )
         }
-    }
-}
-
-/// The same, as a fault of the frame.
-fn told(done: Result<(), Failed>) -> Result<(), WriteFault>
-    ensures { is_ok result ≡ is_ok done }
-{
-    match done {
-        Ok(()) => Ok(()),
-        Err(Failed) => Err(WriteFault),
     }
 }

@@ -11,7 +11,7 @@ use itoa::Buffer;
 use satl_audit::Verdict;
 use satl_base::append;
 use satl_frame::{OutFrame, Reason, WriteFault, push};
-use satl_io::{Failed, Sink};
+use satl_io::Sink;
 use satl_text::{Text, write_line};
 
 /// The words of a verdict.
@@ -45,7 +45,7 @@ pub fn tell_verdict<K: Sink>(sink: &mut K, verdict: Verdict) -> Result<Verdict, 
     text.push(b'\n');
     match push(sink, text.as_slice()) {
         Ok(()) => Ok(verdict),
-        Err(Failed) => Err(RecordFault::Write),
+        Err(WriteFault) => Err(RecordFault::Write),
     }
 }
 

@@ -8,15 +8,15 @@ ghost use Rattle.satl_io.specs.Known.{WrotePart};
 ghost use Rattle.satl_text.specs.Lines.{hex_bytes};
 
 use satl_base::Pages;
-use satl_frame::{WriteBuffer, gather};
-use satl_io::{Failed, Sink};
+use satl_frame::{WriteBuffer, WriteFault, gather};
+use satl_io::Sink;
 
 /// Gathers the digits of at most 512 bytes.
 fn gather_piece<K: Sink>(
     sink: &mut K,
     gathered: &mut WriteBuffer,
     bytes: &[u8],
-) -> Result<(), Failed>
+) -> Result<(), WriteFault>
     requires { length bytes.now ≤ 512 }
     ensures all { OnOk result (Gathers (K.written sink.old) (K.written sink.new) gathered.old gathered.new
         (encode_lower bytes.now)) }
@@ -38,7 +38,7 @@ fn gather_digits<K: Sink>(
     gathered: &mut WriteBuffer,
     pages: &Pages,
     len: u32,
-) -> Result<(), Failed>
+) -> Result<(), WriteFault>
     ensures all { OnOk result (Gathers (K.written sink.old) (K.written sink.new) gathered.old gathered.new
         (encode_lower (first_bytes len pages.now))) }
     ensures part { OnErr result (WrotePart (K.written sink.old) (K.written sink.new)
@@ -46,10 +46,7 @@ fn gather_digits<K: Sink>(
     ensures cause { HasCause (K.faults sink.old) (K.faults sink.new) result }
 {
     for piece in pages.pieces(len) {
-        match gather_piece(sink, gathered, piece) {
-            Ok(()) => {}
-            Err(Failed) => return Err(Failed),
-        }
+        gather_piece(sink, gathered, piece)?;
     }
     Ok(())
 }
@@ -60,7 +57,7 @@ pub fn gather_bytes<K: Sink>(
     gathered: &mut WriteBuffer,
     pages: &Pages,
     len: u32,
-) -> Result<(), Failed>
+) -> Result<(), WriteFault>
     ensures all { OnOk result (Gathers (K.written sink.old) (K.written sink.new) gathered.old gathered.new
         (hex_bytes (first_bytes len pages.now))) }
     ensures part { OnErr result (WrotePart (K.written sink.old) (K.written sink.new)
@@ -70,9 +67,6 @@ pub fn gather_bytes<K: Sink>(
     if pages.pieces(len).next().is_none() {
         gather(sink, gathered, b"-")
     } else {
-        match gather_digits(sink, gathered, pages, len) {
-            Ok(()) => Ok(()),
-            Err(Failed) => Err(Failed),
-        }
+        gather_digits(sink, gathered, pages, len)
     }
 }

@@ -12,7 +12,7 @@ use crate::summary::Summary;
 use crate::words::{Text, add_bytes, add_decimal, add_digits, add_word};
 use satl_base::{Nexus, Reply, Response, Tag, append};
 use satl_frame::{OutFrame, Reason, WriteBuffer, WriteFault, gather, push, sent_len};
-use satl_io::{Failed, Sink};
+use satl_io::Sink;
 
 /// The line of a reply up to its data.
 fn front_text(reply: &Reply) -> Text
@@ -97,18 +97,6 @@ fn summary_text(seed: u64, summary: &Summary) -> Text
     text
 }
 
-/// Writes a text.
-fn write_text<K: Sink>(sink: &mut K, text: &[u8]) -> Result<(), WriteFault>
-    ensures all { OnOk result (Wrote (K.written sink.old) (K.written sink.new) text.now) }
-    ensures part { OnErr result (WrotePart (K.written sink.old) (K.written sink.new) text.now) }
-    ensures cause { HasCause (K.faults sink.old) (K.faults sink.new) result }
-{
-    match push(sink, text) {
-        Ok(()) => Ok(()),
-        Err(Failed) => Err(WriteFault),
-    }
-}
-
 fn write_reply<K: Sink>(sink: &mut K, reply: &Reply) -> Result<(), WriteFault>
     requires { IsWritable reply.now }
     ensures all { OnOk result (Wrote (K.written sink.old) (K.written sink.new) (reply_line reply.now)) }
@@ -117,18 +105,9 @@ fn write_reply<K: Sink>(sink: &mut K, reply: &Reply) -> Result<(), WriteFault>
 {
     let mut buffer = WriteBuffer::of(front_text(reply).as_slice());
     let len = sent_len(reply.expected, reply.data_len);
-    match gather_bytes(sink, &mut buffer, &reply.body, len) {
-        Ok(()) => {}
-        Err(Failed) => return Err(WriteFault),
-    }
-    match gather(sink, &mut buffer, end_text(reply).as_slice()) {
-        Ok(()) => {}
-        Err(Failed) => return Err(WriteFault),
-    }
-    match write_text(sink, buffer.as_slice()) {
-        Ok(()) => Ok(()),
-        Err(WriteFault) => Err(WriteFault),
-    }
+    gather_bytes(sink, &mut buffer, &reply.body, len)?;
+    gather(sink, &mut buffer, end_text(reply).as_slice())?;
+    push(sink, buffer.as_slice())
 }
 
 /// Appends exactly the line of the frame to the bytes of the sink, and none of the magic (profile). A reply's data is cut to
@@ -149,14 +128,12 @@ pub fn write_line<K: Sink>(frame: OutFrame, sink: &mut K) -> Result<(), WriteFau
             function,
             response,
             tag,
-        } => write_text(
+        } => push(
             sink,
             managed_text(nexus, function, response, tag).as_slice(),
         ),
-        OutFrame::End => write_text(sink, b"end\n"),
-        OutFrame::Fault { reason, offset } => {
-            write_text(sink, fault_text(reason, offset).as_slice())
-        }
+        OutFrame::End => push(sink, b"end\n"),
+        OutFrame::Fault { reason, offset } => { push(sink, fault_text(reason, offset).as_slice()) }
     }
 }
 
@@ -168,5 +145,5 @@ pub fn write_summary<K: Sink>(seed: u64, summary: &Summary, sink: &mut K) -> Res
     ensures part { OnErr result (WrotePart (K.written sink.old) (K.written sink.new) (summary_lines seed summary.now)) }
     ensures cause { HasCause (K.faults sink.old) (K.faults sink.new) result }
 {
-    write_text(sink, summary_text(seed, summary).as_slice())
+    push(sink, summary_text(seed, summary).as_slice())
 }

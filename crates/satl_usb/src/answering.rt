@@ -20,7 +20,7 @@ use satl_cdb::REQUEST_SENSE;
 use satl_core::Satl;
 use satl_drive::Bench;
 use satl_frame::WriteFault;
-use satl_io::{Failed, Sink};
+use satl_io::Sink;
 use std::sync::ledger::Ledger;
 
 /// Whether a command is REQUEST SENSE (SPC-4 6.39).
@@ -61,10 +61,7 @@ fn repeat_sense<K: Sink>(
     ensures cause { HasCause (K.faults sink.old) (K.faults sink.new) result }
 {
     satl.recycle(item.body);
-    match tell_kept(&item.command, sense, sink) {
-        Ok(()) => Ok(()),
-        Err(Failed) => Err(WriteFault),
-    }
+    tell_kept(&item.command, sense, sink)
 }
 
 /// Sends an item to the unit, and gives the sense data of its reply, where it failed.

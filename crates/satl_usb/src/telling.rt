@@ -6,7 +6,7 @@ use crate::wire::tell_reply;
 use satl_base::{Manage, Reply, Response, Scsi, SenseBytes, append};
 use satl_bot::Cbw;
 use satl_frame::WriteFault;
-use satl_io::{Failed, Sink};
+use satl_io::Sink;
 use satl_step::Teller;
 
 /// Tells the answer to one item on the wire, and keeps its sense data where it failed (profile).
@@ -40,10 +40,7 @@ impl Teller for ItemTeller {
     ghost behind = { λ teller answer. item_behind teller answer };
 
     fn tell_reply<K: Sink>(&mut self, reply: &Reply, sink: &mut K) -> Result<(), WriteFault> {
-        match tell_reply(&self.command, reply, sink) {
-            Ok(()) => {}
-            Err(Failed) => return Err(WriteFault),
-        }
+        tell_reply(&self.command, reply, sink)?;
         self.kept = kept_of(reply);
         Ok(())
     }

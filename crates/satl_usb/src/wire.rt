@@ -8,8 +8,8 @@ ghost use Rattle.satl_usb.specs.Wire.{csw_status, kept_on_wire, reply_on_wire, s
 
 use satl_base::{Reply, Scsi, SenseBytes};
 use satl_bot::{Cbw, CswStatus, csw_bytes};
-use satl_frame::{WriteBuffer, gather, gather_data, push};
-use satl_io::{Failed, Sink};
+use satl_frame::{WriteBuffer, WriteFault, gather, gather_data, push};
+use satl_io::Sink;
 
 /// The number of bytes of data that the host takes (USB Mass Storage Class, Bulk-Only Transport 1.0, 5.3).
 fn taken_length(command: &Cbw) -> u32
@@ -32,7 +32,11 @@ fn csw_status(command: &Cbw, status: Scsi, size: u32) -> CswStatus
 }
 
 /// Gathers so many zeros.
-fn gather_zeros<K: Sink>(sink: &mut K, gathered: &mut WriteBuffer, count: u32) -> Result<(), Failed>
+fn gather_zeros<K: Sink>(
+    sink: &mut K,
+    gathered: &mut WriteBuffer,
+    count: u32,
+) -> Result<(), WriteFault>
     ensures all { OnOk result (Gathers (K.written sink.old) (K.written sink.new) gathered.old gathered.new
         (replicate count 0)) }
     ensures part { OnErr result (WrotePart (K.written sink.old) (K.written sink.new)
@@ -56,7 +60,7 @@ fn tell_status<K: Sink>(
     size: u32,
     gathered: &mut WriteBuffer,
     sink: &mut K,
-) -> Result<(), Failed>
+) -> Result<(), WriteFault>
     ensures all { OnOk result (Wrote (K.written sink.old) (K.written sink.new)
         (gathered.old ++ status_on_wire command.now status size)) }
     ensures part { OnErr result (WrotePart (K.written sink.old) (K.written sink.new)
@@ -71,9 +75,9 @@ fn tell_status<K: Sink>(
 }
 
 /// Writes a reply to a command on the wire: its data, cut to what the host takes or with zeros behind it, and the wrapper of
-/// its status. `Failed` comes only where the sink's count of faults rose; then some front of it was written (USB Mass Storage
-/// Class, Bulk-Only Transport 1.0, 5.2, 5.3; the residue and the status: profile).
-pub fn tell_reply<K: Sink>(command: &Cbw, reply: &Reply, sink: &mut K) -> Result<(), Failed>
+/// its status. `WriteFault` comes only where the sink's count of faults rose; then some front of it was written (USB Mass
+/// Storage Class, Bulk-Only Transport 1.0, 5.2, 5.3; the residue and the status: profile).
+pub fn tell_reply<K: Sink>(command: &Cbw, reply: &Reply, sink: &mut K) -> Result<(), WriteFault>
     requires { IsWritable reply.now }
     ensures all { OnOk result (Wrote (K.written sink.old) (K.written sink.new) (reply_on_wire command.now reply.now)) }
     ensures part { OnErr result (WrotePart (K.written sink.old) (K.written sink.new) (reply_on_wire command.now reply.now)) }
@@ -85,9 +89,9 @@ pub fn tell_reply<K: Sink>(command: &Cbw, reply: &Reply, sink: &mut K) -> Result
     tell_status(command, reply.status, reply.data_len, &mut gathered, sink)
 }
 
-/// Writes sense data that was kept, as the data of a command that passed, as many bytes as byte 4 of its CDB allows. `Failed`
-/// comes only where the sink's count of faults rose; then some front of it was written (SPC-4 6.39).
-pub fn tell_kept<K: Sink>(command: &Cbw, sense: &SenseBytes, sink: &mut K) -> Result<(), Failed>
+/// Writes sense data that was kept, as the data of a command that passed, as many bytes as byte 4 of its CDB allows.
+/// `WriteFault` comes only where the sink's count of faults rose; then some front of it was written (SPC-4 6.39).
+pub fn tell_kept<K: Sink>(command: &Cbw, sense: &SenseBytes, sink: &mut K) -> Result<(), WriteFault>
     ensures all { OnOk result (Wrote (K.written sink.old) (K.written sink.new) (kept_on_wire command.now sense.now)) }
     ensures part { OnErr result (WrotePart (K.written sink.old) (K.written sink.new) (kept_on_wire command.now sense.now)) }
     ensures cause { HasCause (K.faults sink.old) (K.faults sink.new) result }

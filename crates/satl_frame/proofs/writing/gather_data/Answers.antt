@@ -1,5 +1,6 @@
 use Rattle.std.proofs.Common.{◌++◌, [], ◌∙◌, arith}
 use Rattle.satl_base.specs.Blocks.{first_bytes}
+use Rattle.satl_base.proofs.OutcomeLemmas.{any_err}
 use Rattle.satl_frame.proofs.GatheringLemmas.{gathers_nothing, Gathers-more, piece_gathered, piece_failed}
 use Rattle.satl_frame.proofs.writing.gather_data.Goals as goal
 
@@ -13,7 +14,7 @@ loop-piece-init g c = record {
 
 pub loop-piece-preserved : goal.loop-piece-preserved
 loop-piece-preserved g c =
-    let known = c.in-Ok.ensures in
+    let known = c.in_ok-gather.ensures in
     let before = c.loop-piece.invariant in
     record {
       front = before.front ++ c.in-Some.piece.now;
@@ -22,8 +23,8 @@ loop-piece-preserved g c =
       later = omega (arith, known.cause.later);
     }
 
-pub returns-in-Err-clause-part : goal.returns-in-Err-clause-part
-returns-in-Err-clause-part g c =
+pub returns-in_err-gather-clause-part : goal.returns-in_err-gather-clause-part
+returns-in_err-gather-clause-part g c =
     let before = c.loop-piece.invariant in
-    piece_failed c.in-Some.piece.now c.next.new.self (first_bytes c.args.len c.args.pages.now) before.gathers c.in-Err.ensures.part
-    (piece_gathered before.front c.in-Some.piece.now c.next.new.self (first_bytes c.args.len c.args.pages.now) c.in-Some.ensures.steps.0 before.rest)
+    any_err c.from_residual.result _ (piece_failed c.in-Some.piece.now c.next.new.self (first_bytes c.args.len c.args.pages.now) before.gathers c.in_err-gather.ensures.part
+    (piece_gathered before.front c.in-Some.piece.now c.next.new.self (first_bytes c.args.len c.args.pages.now) c.in-Some.ensures.steps.0 before.rest))

@@ -1,5 +1,6 @@
 use Rattle.std.proofs.Common.{◌++◌, [], ◌∙◌, arith}
 use Rattle.satl_base.specs.Blocks.{first_bytes}
+use Rattle.satl_base.proofs.OutcomeLemmas.{any_err}
 use Rattle.satl_frame.proofs.GatheringLemmas.{gathers_nothing, piece_gathered}
 use Rattle.satl_text.proofs.DigitLemmas.{encode_lower-nil, digits_more, digits_failed}
 use Rattle.satl_text.proofs.digits.gather_digits.Goals as goal
@@ -14,7 +15,7 @@ loop-piece-init g c = record {
 
 pub loop-piece-preserved : goal.loop-piece-preserved
 loop-piece-preserved g c =
-    let known = c.in-Ok.ensures in
+    let known = c.in_ok-gather_piece.ensures in
     let before = c.loop-piece.invariant in
     record {
       front = before.front ++ c.in-Some.piece.now;
@@ -23,9 +24,9 @@ loop-piece-preserved g c =
       later = omega (arith, known.cause.later);
     }
 
-pub returns-in-Err-clause-part : goal.returns-in-Err-clause-part
-returns-in-Err-clause-part g c =
+pub returns-in_err-gather_piece-clause-part : goal.returns-in_err-gather_piece-clause-part
+returns-in_err-gather_piece-clause-part g c =
     let before = c.loop-piece.invariant in
     let all = first_bytes c.args.len c.args.pages.now in
-    digits_failed before.front c.in-Some.piece.now c.next.new.self all before.gathers c.in-Err.ensures.part
-    (piece_gathered before.front c.in-Some.piece.now c.next.new.self all c.in-Some.ensures.steps.0 before.rest)
+    any_err c.from_residual.result _ (digits_failed before.front c.in-Some.piece.now c.next.new.self all before.gathers c.in_err-gather_piece.ensures.part
+    (piece_gathered before.front c.in-Some.piece.now c.next.new.self all c.in-Some.ensures.steps.0 before.rest))
