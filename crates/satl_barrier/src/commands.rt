@@ -54,10 +54,8 @@ pub fn run_bare<D: Drive, L: Ledger>(
     ensures stays { Stays (D.state drive.old) (D.state drive.new) }
     ensures step { steps.new ≡ steps.old + 1 }
 {
-    match run(drive, command, &mut Pages::default(), steps) {
-        Ok(_) => Ok(()),
-        Err(LinkDown) => Err(LinkDown),
-    }
+    run(drive, command, &mut Pages::default(), steps)?;
+    Ok(())
 }
 
 /// Reads the IDENTIFY DEVICE data, 512 bytes, into the first page. `LinkDown`: the link was lost (ACS-3, IDENTIFY DEVICE).
@@ -74,8 +72,6 @@ pub fn tell_identity<D: Drive, L: Ledger>(
     ensures size { length pages.new ≡ length pages.old }
     ensures step { steps.new ≡ steps.old + 1 }
 {
-    match run(drive, &AtaCommand::Identify, pages, steps) {
-        Ok(_) => Ok(()),
-        Err(LinkDown) => Err(LinkDown),
-    }
+    run(drive, &AtaCommand::Identify, pages, steps)?;
+    Ok(())
 }

@@ -1,5 +1,5 @@
 use Rattle.satl_barrier.proofs.CommandsLemmas.{told}
 use Rattle.satl_barrier.proofs.commands.tell_identity.Goals as goal
 
-pub returns-in-Ok-clause-told : goal.returns-in-Ok-clause-told
-returns-in-Ok-clause-told g c = told _ _ _ c.in-Ok.ensures.ok
+pub returns-clause-told : goal.returns-clause-told
+returns-clause-told g c = told _ _ _ c.in_ok-run.ensures.ok
