@@ -1,9 +1,11 @@
 -- Issuing, as the code does it.
 use Rattle.std.proofs.Common.{◌≡◌, ◌⊎◌, refl, sym, ◌∙◌, ap, subst, inl, inr, ⊎_elim, ℕ, zero, suc, ◌<◌, ◌≤◌, not, drop, Bool, true, false, List, [], ◌∷◌, ◌++◌, Option, Some, None, arith, length, length-append, eqb-true, eq-eqb, cond}
-use Rattle.std.specs.Prelude.{◌==◌, ◌||◌, if◌then◌else◌, slice_get, slice_set, take, unwrap_or}
+use Rattle.std.specs.Prelude.{◌==◌, ◌||◌, if◌then◌else◌, IfSome, bit_or, slice_get, slice_set, take, unwrap_or}
+use Rattle.std.specs.Int.{bit_at}
 use Rattle.std.specs.Option.{option_and_then, option_flatten, option_map}
 use Rattle.std.specs.List.{AllByRecursion, AllZip, find, list_any, position_from}
-use Rattle.std.proofs.lemmas.Bool.{cases_eq, cases_lt, not-false}
+use Rattle.std.proofs.lemmas.Bool.{cases_eq, cases_lt, eqb-false}
+use Rattle.std.proofs.lemmas.Nat.Bits.{bit_at_or}
 use Rattle.std.proofs.lemmas.List.{append-nil, length-map}
 use Rattle.std.proofs.lemmas.Option.{slice_get_within}
 use Rattle.satl_base.specs.declared.block.Block.{Block}
@@ -18,7 +20,7 @@ use Rattle.satl_line.specs.Conflict.{conflicts}
 use Rattle.satl_line.specs.Eligible.{IsEligibleBy, eligible_at, eligible_by, is_clear_by}
 use Rattle.satl_line.specs.Ranged.{RangedTask, ranged_of}
 use Rattle.satl_line.specs.Ranged.RangedTask.{ranged_read}
-use Rattle.satl_line.specs.Tasks.{Held, count_of, entries_of, entry_at, slots_of, with_body}
+use Rattle.satl_line.specs.Tasks.{Held, IsBarredMask, count_of, entries_of, entry_at, slots_of, with_body}
 use Rattle.satl_line.proofs.EligibleLemmas.{eligible_by-formed, eligible_passes, eligible_stands}
 use Rattle.satl_drive.specs.State.{DriveState, Outstanding}
 use Rattle.satl_drive.specs.Queue.{CanIssue, IsIssueCutOff, IsIssued, Slots}
@@ -26,8 +28,10 @@ use Rattle.satl_pages.specs.Slots.{pages_at}
 use Rattle.satl_flight.specs.declared.flight.Flying.{Flying}
 use Rattle.satl_flight.specs.Flown.{AreApart, IsFlown, IsInFlight, clash, is_outstanding, is_in_slot, queued_for, is_of_slot}
 use Rattle.satl_flight.specs.Lending.{IsLending, Waiting, has_tag, waiting, whole_task, whole_tasks, with_own_pages}
-use Rattle.satl_flight.specs.Settled.{IsFilled, IsIssuedIfItMay, IsLaunched, IsLostQuietly, IssuesAtMost, OnDrive, on_drive}
-use Rattle.satl_flight.proofs.ZipLemmas.{IsBefore, found_within, passed_from}
+use Rattle.satl_flight.specs.Settled.{IsBefore, IsFilled, IsIssuedIfItMay, IsLaunched, IsLostQuietly, IssuesAtMost, NeedsNoIssue, OnDrive, on_drive}
+use Rattle.satl_flight.specs.Tags.{AreHeld}
+use Rattle.satl_flight.proofs.TagsLemmas.{told_by_zero}
+use Rattle.satl_flight.proofs.ZipLemmas.{get-mapped, passed_from}
 use Rattle.satl_flight.proofs.FlownLemmas.{FitsOn}
 use Rattle.satl_flight.proofs.LendingLemmas.{at_found, find-none, get-set, lend_lending, lend_same, whole_get, whole-slots}
 use Rattle.satl_flight.proofs.LaunchedLemmas.{can_issue, deepens_same, launched_one, lost_issue, queued_fits}
@@ -180,17 +184,38 @@ covered_still tasks old new place step covered =
 pub as_many : (flying flying' : List Flying) (slots slots' : Slots) (tasks tasks' : List Held) → whole_tasks flying slots tasks ≡ whole_tasks flying' slots' tasks' → length tasks ≡ length tasks'
 as_many flying flying' slots slots' tasks tasks' same = sym (length-whole flying slots tasks) ∙ ap length same ∙ length-whole flying' slots' tasks'
 
--- the next task that is not outstanding stands behind, and among the tasks
-pub next_within : (flying : List Flying) (tasks : List Held) (from place : ℕ) (next : Option ℕ) → next ≡ position_from (λ slot. not (is_outstanding flying slot)) from (drop from (slots_of tasks)) → next ≡ Some place → (from ≤ place) × (place < length tasks)
-next_within flying tasks from place next is found =
-    let within = found_within (λ slot. not (is_outstanding flying slot)) (slots_of tasks) from place next is found in
-    (within.0, omega (arith, within.1, length-map tasks (λ (h : Held). h.slot)))
+-- the next task to issue stands behind, and among the tasks
+pub next_within : (tasks : List Held) (from place : ℕ) (next : Option ℕ) → IfSome next (λ found. (from ≤ found) × (found < length tasks)) → next ≡ Some place → (from ≤ place) × (place < length tasks)
+next_within tasks from place next within found = subst (λ o. IfSome o (λ found. (from ≤ found) × (found < length tasks))) found within
+
+-- between, each task is outstanding or waits for an earlier one
+pub needs_none : (held barred : ℕ) (flying : List Flying) (tasks : List Held) (from : ℕ) (next : Option ℕ) → AreHeld held flying → IsBarredMask tasks barred → next ≡ position_from (λ slot. bit_at (bit_or held barred) slot == 0) from (drop from (slots_of tasks))
+    → (place : ℕ) → from ≤ place → IsBefore place next → NeedsNoIssue flying tasks place
+needs_none held barred flying tasks from next are mask is place behind before slot at =
+    let h = get-mapped (λ (x : Held). x.slot) tasks place slot at in
+    let some = passed_from (λ slot. bit_at (bit_or held barred) slot == 0) (slots_of tasks) from next is place slot behind at before in
+    go (is_outstanding flying slot) refl (eligible_at (entries_of tasks) place) refl some (sym (ap (bit_at barred) h.1.1) ∙ mask place h.0 h.1.0)
+  where
+    go : (b : Bool) → is_outstanding flying slot ≡ b → (e : Bool) → eligible_at (entries_of tasks) place ≡ e → (bit_at (bit_or held barred) slot == 0) ≡ false → bit_at barred slot ≡ (if eligible_at (entries_of tasks) place then 0 else 1)
+        → (is_outstanding flying slot ≡ true) ⊎ (eligible_at (entries_of tasks) place ≡ false)
+    go true held_there e e_is some bit = inl held_there
+    go false fresh false e_is some bit = inr e_is
+    go false fresh true e_is some bit =
+        let one : bit_at held slot ≡ 0 = eqb-true (bit_at held slot) 0 (told_by_zero held flying slot are ∙ ap not fresh) in
+        let other : bit_at barred slot ≡ 0 = bit ∙ ap (λ b. if b then 0 else 1) e_is in
+        absurd (eqb-false (bit_at (bit_or held barred) slot) 0 some (omega (arith, one, other, bit_at_or held barred slot)))
 
 -- where each place up to this one is covered, so is each before the next task that is not outstanding
-pub covered_before : (flying : List Flying) (slots : Slots) (tasks whole : List Held) → whole_tasks flying slots tasks ≡ whole → (from : ℕ) (next : Option ℕ) → next ≡ position_from (λ slot. not (is_outstanding flying slot)) from (drop from (slots_of tasks))
+pub covered_before : (flying : List Flying) (slots : Slots) (tasks whole : List Held) → whole_tasks flying slots tasks ≡ whole → (from : ℕ) (next : Option ℕ) → ((place : ℕ) → from ≤ place → IsBefore place next → NeedsNoIssue flying tasks place)
     → ((k : ℕ) → k < from → IsIssuedIfItMay flying whole k) → (k : ℕ) → IsBefore k next → IsIssuedIfItMay flying whole k
-covered_before flying slots tasks whole same from next is covered k before =
-    ⊎_elim (λ below. covered k below) (λ behind. inr (λ h task at passes ranged. not-false (is_outstanding flying h.slot) (passed_from (λ slot. not (is_outstanding flying slot)) (slots_of tasks) from next is k h.slot behind (in_slot h at) before))) (cases_lt k from)
+covered_before flying slots tasks whole same from next none covered k before =
+    ⊎_elim
+    (λ below. covered k below)
+    (λ behind. inr (λ h task at passes ranged. ⊎_elim
+    (λ held. held)
+    (λ barred. let no_pass : true ≡ false = sym passes ∙ ap (λ ts. eligible_by clash ts k) (sym same) ∙ same_test flying slots tasks k ∙ barred in absurd cc)
+    (none k behind before h.slot (in_slot h at))))
+    (cases_lt k from)
   where
     in_slot : (h : Held) → slice_get whole k ≡ Some h → slice_get (slots_of tasks) k ≡ Some h.slot
     in_slot h at = ap (λ l. slice_get l k) (sym (whole-slots flying slots tasks) ∙ ap slots_of same) ∙ get-map (λ (x : Held). x.slot) whole k h at

@@ -11,12 +11,12 @@ use Rattle.satl_regs.specs.declared.values.AtaCommand.TheVariants.{ReadLog}
 use Rattle.satl_regs.specs.Commands.{command_in}
 use Rattle.satl_regs.specs.Effects.{Traffic, icrc_abrt, unc}
 use Rattle.satl_errlog.specs.declared.entry.NcqError.{NcqError}
-use Rattle.satl_line.specs.Eligible.{IsEligibleBy, eligible_by}
+use Rattle.satl_line.specs.Eligible.{IsEligibleBy, eligible_at, eligible_by}
 use Rattle.satl_line.specs.Ending.{EndsAs, Outcome, active_after, surface}
 use Rattle.satl_line.specs.Ending.Outcome.{ends_done, ends_flawed, ends_glitched}
 use Rattle.satl_line.specs.Ranged.{MayPut, RangedTask, ranged_of}
 use Rattle.satl_line.specs.Ranged.RangedTask.{ranged_read, ranged_write, ranged_trim}
-use Rattle.satl_line.specs.Tasks.{Held, entries_of, with_body}
+use Rattle.satl_line.specs.Tasks.{Held, entries_of, slots_of, with_body}
 use Rattle.satl_drive.specs.State.{DriveState}
 use Rattle.satl_drive.specs.Queue.{FailsAtFlaw, FailsByCrc, queued_flaw}
 use Rattle.satl_drive.specs.Rules.{IsLogRead, IsRunCutOff, MaySet}
@@ -171,6 +171,16 @@ abbrev pub IsIssuedIfItMay : List Flying → List Held → ℕ → Type 0
 IsIssuedIfItMay flying tasks place =
     (length flying ≡ 32) ⊎ ((h : Held) (task : RangedTask) → slice_get tasks place ≡ Some h
     → eligible_by clash tasks place ≡ true → ranged_of h.entry ≡ Some task → is_outstanding flying h.slot ≡ true)
+
+-- the place comes before the one that is found, or none is found (profile)
+abbrev pub IsBefore : ℕ → Option ℕ → Type 0
+IsBefore place None = Unit {0}
+IsBefore place (Some found) = place < found
+
+-- the task at a place is outstanding, or not eligible (profile)
+abbrev pub NeedsNoIssue : List Flying → List Held → ℕ → Type 0
+NeedsNoIssue flying tasks place = (slot : ℕ) → slice_get (slots_of tasks) place ≡ Some slot →
+    (is_outstanding flying slot ≡ true) ⊎ (eligible_at (entries_of tasks) place ≡ false)
 
 -- the queue is used: 32 tasks are outstanding, or each eligible ranged task is (profile)
 abbrev pub IsFilled : List Flying → List Held → Type 0

@@ -72,13 +72,8 @@ impl Queue {
         ensures fit { IsFit (D.state drive.old) → IsFit (D.state drive.new) }
         ensures steps { steps.new + length self.old.flying ≤ steps.old + 32 }
     {
-        match self
-            .flight
+        self.flight
             .launch(&mut self.set, &mut self.dma, drive, steps)
-        {
-            Ok(()) => Ok(()),
-            Err(LinkDown) => Err(LinkDown),
-        }
     }
 
     /// Polls once: the task that has ended leaves, into a box. Gives the entry of the error log where it failed. The task that
@@ -101,16 +96,11 @@ impl Queue {
         ensures fit { IsFit (D.state drive.new) }
         ensures steps { steps.new ≤ steps.old + 2 }
     {
-        match self
+        let ended = self
             .flight
-            .settle_one(&mut self.set, &mut self.dma, drive, steps)
-        {
-            Ok(ended) => {
-                self.set.remove(ended.place, task);
-                Ok(ended.error)
-            }
-            Err(LinkDown) => Err(LinkDown),
-        }
+            .settle_one(&mut self.set, &mut self.dma, drive, steps)?;
+        self.set.remove(ended.place, task);
+        Ok(ended.error)
     }
 
     /// Resets the drive: nothing is outstanding, and each task waits on (ACS-3, software reset).
@@ -127,10 +117,7 @@ impl Queue {
         ensures fit { IsFit (D.state drive.old) → IsFit (D.state drive.new) }
         ensures step { steps.new ≡ steps.old + 1 }
     {
-        match self.flight.cut(&mut self.set, &mut self.dma, drive, steps) {
-            Ok(()) => Ok(()),
-            Err(LinkDown) => Err(LinkDown),
-        }
+        self.flight.cut(&mut self.set, &mut self.dma, drive, steps)
     }
 
     /// How many tasks wait: at most 64, each in a slot of its own, which hold at most 32,768 blocks. The slots of the tags that

@@ -1,3 +1,4 @@
+pub mod BarredLemmas
 pub mod CountsLemmas
 pub mod MasksLemmas
 pub mod OutlinesLemmas

@@ -430,6 +430,12 @@ walk_step f xs init i d is lt =
     go (x ∷ xs) zero lt = refl
     go (x ∷ xs) (suc i) lt = ap (λ l. f x ∷ l) (go xs i (omega arith))
 
+-- a number that stands at each place of a list
+pub get_or-replicate_same : (n q : ℕ) → ◌≡◌ {A = ℕ} (get_or {A = ℕ} (replicate {A = ℕ} n 0) q 0) 0
+get_or-replicate_same zero q = refl
+get_or-replicate_same (suc n) zero = refl
+get_or-replicate_same (suc n) (suc q) = get_or-replicate_same n q
+
 -- slots with nothing in them
 pub sound_new : (slots : List Entry) (outlines : List Outline) (free masks order tag_counts : List ℕ) → length outlines ≡ 64 → length slots ≡ 64 → order ≡ [] → masks ≡ replicate 64 0 → tag_counts ≡ replicate 256 0 → length free ≡ 64 → AllByRecursion (λ q. q < 64) free → ((q : ℕ) → q < 64 → count_of q free ≡ 1) →
     FitTogether (record { slots = slots; outlines = outlines; order = order; free = free; masks = masks; marked = 0; blocks = 0; active = 0; tag_counts = tag_counts })
@@ -449,11 +455,6 @@ sound_new slots outlines free masks order tag_counts wide room none zeros nothin
       noted = record { held = tt; vacant = All-weaken (λ q. q < 64) (λ q. bit_at 0 q ≡ 0) (λ q lt. bit_at-zero q) free small };
       counted = record { wide = ap length nothing ∙ length-replicate {A = ℕ} 256 0; each = λ low lt. ap (λ l. get_or l low 0) nothing ∙ get_or-replicate_same 256 low };
     })
-  where
-    get_or-replicate_same : (n q : ℕ) → ◌≡◌ {A = ℕ} (get_or {A = ℕ} (replicate {A = ℕ} n 0) q 0) 0
-    get_or-replicate_same zero q = refl
-    get_or-replicate_same (suc n) zero = refl
-    get_or-replicate_same (suc n) (suc q) = get_or-replicate_same n q
 
 -- one more slot is free
 pub record FreeUpTo (k : ℕ) (free : List ℕ) : Type 0 where

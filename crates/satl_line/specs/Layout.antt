@@ -95,6 +95,10 @@ low_byte tag = byte_at 0 tag.0
 abbrev pub has_low_byte : ℕ → Held → Bool
 has_low_byte low held = low_byte held.entry.tag == low
 
+-- the bit of a slot is 1 exactly where its mask is not 0
+abbrev pub AreBarred : List ℕ → ℕ → Type 0
+AreBarred masks barred = (slot : ℕ) → slot < 64 → bit_at barred slot ≡ (if slice_index_or masks slot 0 == 0 then 0 else 1)
+
 -- for each low byte of a tag, how many of these tasks have it
 pub record CountLowBytes (tasks : List Held) (tag_counts : List ℕ) : Type 0 where
   pub wide : length tag_counts ≡ 256

@@ -69,6 +69,11 @@ with_body body held = record { slot = held.slot; entry = record held.entry { bod
 abbrev pub IsReadyMask : List Held → ℕ → Type 0
 IsReadyMask tasks ready = (p : ℕ) → p < 64 → bit_at ready p ≡ (if eligible_at (entries_of tasks) p then 1 else 0)
 
+-- the bit of a task's slot is 1 exactly where the task is not eligible (profile)
+abbrev pub IsBarredMask : List Held → ℕ → Type 0
+IsBarredMask tasks barred = (place : ℕ) → (held : Held) → slice_get tasks place ≡ Some held →
+    bit_at barred held.slot ≡ (if eligible_at (entries_of tasks) place then 0 else 1)
+
 -- whether one of these tasks lies in this slot and conflicts with the task (profile)
 abbrev pub is_barred_from : List Held → Entry → ℕ → Bool
 is_barred_from earlier entry slot = list_any (λ held. held.slot == slot && conflicts held.entry entry) earlier

@@ -1,5 +1,5 @@
 // The tasks in order of arrival, each in a slot of its own.
-ghost use Rattle.std.specs.Prelude.{◌≡◌, ◌≤◌, ◌<◌, ◌==◌, ◌^◌, if◌then◌else◌, ℕ, false, [], drop, map, length, remove, replicate, Some, IfOk, OnOk, OnErr, is_err, slice_get, slice_index, slice_set};
+ghost use Rattle.std.specs.Prelude.{◌≡◌, ◌≤◌, ◌<◌, ◌==◌, ◌^◌, if◌then◌else◌, ℕ, false, [], drop, map, length, not, remove, replicate, Some, IfOk, OnOk, OnErr, is_err, slice_get, slice_index, slice_set};
 ghost use Rattle.std.specs.Int.{bit_at};
 ghost use Rattle.std.specs.Option.{option_copied, option_map};
 ghost use Rattle.std.specs.List.{All, AllByRecursion, position_from};
@@ -7,8 +7,8 @@ ghost use Rattle.satl_base.specs.Limits.{most_held, most_tasks};
 ghost use Rattle.satl_base.specs.Lists.{change_at};
 ghost use Rattle.satl_line.specs.Conflict.{access_of, conflicts};
 ghost use Rattle.satl_line.specs.Eligible.{eligible_at};
-ghost use Rattle.satl_line.specs.Tasks.{Adds, AreMasks, AreOwnSlots, IsReadyMask, count_of, entries_of, entry_at, is_named, is_too_much, slots_of, total_blocks, with_body};
-ghost use Rattle.satl_line.specs.Layout.{IsMask, IsMaskAmong, HasNoOther, clear_bit, cleared, held_in, is_unbarred_at, low_byte, mark_of, one_fewer, one_more, with_slot};
+ghost use Rattle.satl_line.specs.Tasks.{Adds, AreMasks, AreOwnSlots, IsBarredMask, IsReadyMask, count_of, entries_of, entry_at, is_named, is_too_much, slots_of, total_blocks, with_body};
+ghost use Rattle.satl_line.specs.Layout.{AreBarred, IsMask, IsMaskAmong, HasNoOther, clear_bit, cleared, held_in, is_unbarred_at, low_byte, mark_of, one_fewer, one_more, with_slot};
 ghost use Rattle.satl_line.specs.Outlines.{IsOutline, is_of_name, no_outline, outline_in, outlines_in};
 ghost use Rattle.satl_line.specs.Regions.{AllHaveTasks, MayLeaveOut};
 
@@ -51,6 +51,8 @@ pub struct TaskSet {
     // The slots with a task, and those whose task writes or stands alone, as the bits of numbers.
     taken: u64,
     active: u64,
+    // The slots whose task waits for an earlier one, as the bits of a number: those with a mask that is not 0.
+    barred: u64,
     // For each low byte of a tag the number of tasks that have it: mostly 0 for the tag of a task that comes.
     tag_counts: [u8; 256],
     // The places before the first that was found outside some slots: mostly those of the outstanding tasks.
@@ -62,7 +64,7 @@ pub struct TaskSet {
 impl Model for TaskSet {
     ghost use Rattle.std.specs.Prelude.{List};
     ghost use Rattle.satl_line.specs.Tasks.{Held};
-    ghost use Rattle.satl_line.specs.Layout.{FitTogether, HasPassed, IsTakenMask, tasks_in};
+    ghost use Rattle.satl_line.specs.Layout.{AreBarred, FitTogether, HasPassed, IsTakenMask, tasks_in};
     ghost use Rattle.satl_line.specs.Regions.{AreNear};
 
     ghost Value = { List Held };
@@ -80,7 +82,7 @@ impl Model for TaskSet {
       active = s.active;
       tag_counts = s.tag_counts;
     }) × HasPassed s.order s.passed × AreNear s.regions s.outlines s.order
-        × IsTakenMask s.order s.taken };
+        × IsTakenMask s.order s.taken × AreBarred s.masks s.barred };
 }
 
 impl TaskSet {
@@ -106,6 +108,7 @@ impl TaskSet {
             blocks: 0,
             taken: 0,
             active: 0,
+            barred: 0,
             tag_counts: no_counts(),
             passed: Passed::none(),
             regions: Regions::none(),
@@ -154,6 +157,7 @@ impl TaskSet {
         self.marked |= mask;
         self.taken |= 1 << slot;
         self.active = with_slot(self.active, slot, outline.is_active());
+        self.barred = with_slot(self.barred, slot, mask != 0);
         self.regions.note(slot, &outline);
         self.outlines[slot as usize] = outline;
         count_up(&mut self.tag_counts, entry.tag);
@@ -171,7 +175,7 @@ impl TaskSet {
     {
         let slot = self.order.remove(place);
         mem::swap(&mut self.slots[slot as usize], task);
-        clear_slot(&mut self.masks, slot, self.marked);
+        self.barred = clear_slot(&mut self.masks, slot, self.marked, self.barred);
         self.marked &= !(1 << slot);
         self.taken &= !(1 << slot);
         self.active &= !(1 << slot);
@@ -197,6 +201,14 @@ impl TaskSet {
         ensures { IsReadyMask self.now result }
     {
         ready_places(&self.masks, self.order.as_slice())
+    }
+
+    /// The slots of the tasks that are not eligible, as the bits of a number (profile).
+    pub fn barred(&self) -> u64
+        ensures { IsBarredMask self.now result }
+    {
+        are_numbers(&self.masks);
+        self.barred
     }
 
     /// The place of the first task of this nexus and tag. None exactly where there is none (profile).
@@ -345,6 +357,11 @@ fn mask_at(masks: &[u64], slot: u8) -> u64
     masks[slot as usize]
 }
 
+/// Says of masks that they have no bit above that of the last slot.
+fn are_numbers(masks: &[u64])
+    ensures { (slot : ℕ) → slice_index masks.now slot < 2 ^ 64 }
+{}
+
 /// A number with the bit of a slot, where that is to be noted.
 fn with_slot(number: u64, slot: u8, noted: bool) -> u64
     requires { slot < 64 }
@@ -441,17 +458,41 @@ fn may_have(masks: &[u64], slot: u8, marked: u64) -> bool
     has_slot(marked, slot)
 }
 
-/// Takes a slot out of all masks, and makes its own 0. They are looked at only where they may have it.
-fn clear_slot(masks: &mut [u64], slot: u8, marked: u64)
+/// Takes a slot out of all masks, makes its own 0, and gives the slots that are still barred. The masks are looked at only where
+/// they may have it.
+fn clear_slot(masks: &mut [u64], slot: u8, marked: u64, barred: u64) -> u64
     requires small { slot < 64 }
     requires room { length masks.old ≡ 64 }
     requires within { All (HasNoOther marked) masks.old }
-    ensures { masks.new ≡ cleared masks.old slot }
+    requires barred { AreBarred masks.old barred }
+    ensures cleared { masks.new ≡ cleared masks.old slot }
+    ensures barred { AreBarred masks.new result }
 {
-    if may_have(masks, slot, marked) {
-        clear_in_all(masks, slot);
+    let others = barred & !(1 << slot);
+    if !may_have(masks, slot, marked) {
+        masks[slot as usize] = 0;
+        return others;
     }
+    clear_in_all(masks, slot);
     masks[slot as usize] = 0;
+    barred_among(masks, others)
+}
+
+/// Those of some slots, the bits of a number, whose mask is not 0.
+// It takes a step for each of them, of which there are mostly few.
+fn barred_among(masks: &[u64], among: u64) -> u64
+    requires room { length masks.now ≡ 64 }
+    ensures { (slot : ℕ) → slot < 64
+        → bit_at result slot ≡ (if not (slice_index masks.now slot == 0) then bit_at among slot else 0) }
+{
+    let mut barred = 0u64;
+    let mut rest = among;
+    while rest != 0 {
+        let slot = lowest_slot(rest);
+        rest &= !(1 << slot);
+        barred = with_slot(barred, slot, mask_at(masks, slot) != 0);
+    }
+    barred
 }
 
 fn clear_in_all(masks: &mut [u64], slot: u8)

@@ -14,7 +14,7 @@ loop-i-init c =
     let pages = c.args.pages.now in
     record {
       filled = c.split-filled.ensures.rest ∙ ap (λ bs. bs ++ drop n pages) (nows_none (cells_of c.args.sectors.now) (c.args.lba + (n - 0)));
-      left = omega (arith, ap length c.split-filled.ensures.kept, length-take n pages);
+      left = omega (arith, ap length c.take-blank.ensures.value, ap length c.split-filled.ensures.kept, length-take n pages);
       size = omega (arith, ap length c.split-filled.ensures.rest, length-drop n pages);
     }
 

@@ -1,15 +1,19 @@
-use Rattle.std.proofs.Common.{ap, drop, not, ◌∙◌}
-use Rattle.std.specs.Prelude.{◌==◌}
+use Rattle.std.proofs.Common.{subst, ◌≤◌, ◌<◌}
+use Rattle.std.specs.Prelude.{◌==◌, IfSome, bit_or}
 use Rattle.std.specs.Int.{bit_at}
-use Rattle.std.specs.List.{position_from}
-use Rattle.satl_line.specs.Tasks.{slots_of}
-use Rattle.satl_flight.specs.Flown.{is_outstanding}
-use Rattle.satl_flight.proofs.TagsLemmas.{told_by_zero}
-use Rattle.satl_flight.proofs.ZipLemmas.{position_from-same}
+use Rattle.std.proofs.lemmas.List.{length-map}
+use Rattle.satl_line.specs.Tasks.{Held, slots_of}
+use Rattle.satl_flight.specs.Settled.{NeedsNoIssue}
+use Rattle.satl_flight.proofs.LaunchingLemmas.{needs_none}
+use Rattle.satl_flight.proofs.ZipLemmas.{is_within}
 use Rattle.satl_flight.proofs.flight.Flight.next_place.Goals as goal
 
-pub returns-clause-value : goal.returns-clause-value
-returns-clause-value c =
-    c.first_outside.ensures.value
-    ∙ position_from-same (λ slot. bit_at c.self.inside.held slot == 0) (λ slot. not (is_outstanding c.self.inside.flying slot)) (λ slot. told_by_zero c.self.inside.held c.self.inside.flying slot c.self.invariant.3) c.args.from (drop c.args.from (slots_of c.args.set.now))
-    ∙ ap (λ fs. position_from (λ slot. not (is_outstanding fs slot)) c.args.from (drop c.args.from (slots_of c.args.set.now))) c.self.view_is
+pub returns-clause-within : goal.returns-clause-within
+returns-clause-within c =
+    subst (λ n. IfSome c.first_outside.result (λ place. (c.args.from ≤ place) × (place < n))) (length-map c.args.set.now (λ (h : Held). h.slot))
+    (is_within (λ slot. bit_at (bit_or c.self.inside.held c.barred.result) slot == 0) (slots_of c.args.set.now) c.args.from c.first_outside.result c.first_outside.ensures.value)
+
+pub returns-clause-passed : goal.returns-clause-passed
+returns-clause-passed c = λ place behind before.
+    subst (λ fs. NeedsNoIssue fs c.args.set.now place) c.self.view_is
+    (needs_none c.self.inside.held c.barred.result c.self.inside.flying c.args.set.now c.args.from c.first_outside.result c.self.invariant.3 c.barred.ensures c.first_outside.ensures.value place behind before)

@@ -1,9 +1,11 @@
-use Rattle.std.proofs.Common.{◌∙◌, ap, arith}
-use Rattle.satl_line.specs.Layout.{with_slot}
+use Rattle.std.proofs.Common.{◌∙◌, ap, set, sym, subst, arith}
+use Rattle.satl_line.specs.Layout.{AreBarred, with_slot}
+use Rattle.satl_line.specs.Tasks.{count_of}
 use Rattle.satl_line.proofs.PassedLemmas.{with_place}
 use Rattle.satl_line.proofs.AmongLemmas.{taken_with}
+use Rattle.satl_line.proofs.BarredLemmas.{barred_with}
 use Rattle.satl_line.proofs.NearLemmas.{near_with, slot_free}
-use Rattle.satl_line.proofs.SlotsLemmas.{comes_from, counts_few}
+use Rattle.satl_line.proofs.SlotsLemmas.{comes_from, counts_few, slots_of_tasks}
 use Rattle.satl_line.proofs.set.TaskSet.add.Goals as goal
 
 pub invariant_of-self : goal.invariant_of-self
@@ -17,6 +19,10 @@ invariant_of-self c =
           c.push.ensures c.note.ensures.room c.note.ensures.noted c.note.ensures.others c.self.invariant.2,
       taken_with c.self.inside.order c.self.inside.free.items c.push.new.self c.pop.new.self.items c.in-Some.slot c.self.inside.taken
           c.self.invariant.0.small c.in-Some.ensures.items c.self.invariant.0.once come.sound.once c.self.invariant.3,
+      let vacant = slot_free _ c.pop.new.self.items c.in-Some.slot c.self.invariant.0 c.in-Some.ensures.items in
+          subst (AreBarred (set c.self.inside.masks c.in-Some.slot c.mask_for-mask.result)) (sym c.with_slot-self-inside-2.ensures)
+          (barred_with c.self.inside.masks c.in-Some.slot c.mask_for-mask.result c.self.inside.barred (omega (arith, vacant.0, c.self.invariant.0.outlined.room, c.self.invariant.0.wide)) (omega (arith, vacant.0, c.self.invariant.0.outlined.room))
+          (c.self.invariant.0.masked.empty c.in-Some.slot (ap (count_of c.in-Some.slot) (slots_of_tasks c.self.inside.slots.items c.self.inside.order) ∙ vacant.1)) c.self.invariant.4),
     )
 
 pub returns-clause-ok : goal.returns-clause-ok

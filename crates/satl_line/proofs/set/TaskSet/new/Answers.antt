@@ -1,5 +1,6 @@
 use Rattle.std.proofs.Common.{ap, arith, length}
 use Rattle.satl_line.proofs.AmongLemmas.{taken_none}
+use Rattle.satl_line.proofs.BarredLemmas.{barred_none}
 use Rattle.satl_line.proofs.NearLemmas.{near_none}
 use Rattle.satl_line.proofs.SlotsLemmas.{free_more, sound_new}
 use Rattle.satl_line.proofs.set.TaskSet.new.Goals as goal
@@ -19,4 +20,5 @@ invariant_of-result c = (
   c.none.ensures c.new-2.result,
   near_none c.none-2.result c.no_outlines.result c.new-2.result c.none-2.ensures c.new-2.ensures,
   taken_none c.new-2.result c.new-2.ensures,
+  barred_none c.no_masks.result c.no_masks.ensures,
 )

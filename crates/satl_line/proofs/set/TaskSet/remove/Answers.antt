@@ -10,20 +10,20 @@ use Rattle.satl_line.proofs.set.TaskSet.remove.Goals as goal
 pub count_down-requires-clause-some : goal.count_down-requires-clause-some
 count_down-requires-clause-some c =
     (leaves _ c.args.self.now c.args.place c.remove-slot.result c.index_mut.result.now c.swap.new.x c.entry-entry.result.now
-    c.remove-slot.new.self c.push.new.self.items c.clear_slot.new.masks _ c.self.invariant.0 c.self.view_is c.requires c.remove-slot.ensures.value c.index_mut.ensures.value (c.entry-entry.ensures ∙ c.swap.ensures.y_after)
-    c.remove-slot.ensures.others c.push.ensures.items c.clear_slot.ensures refl).some
+    c.remove-slot.new.self c.push.new.self.items c.clear_slot-self-inside.new.masks _ c.self.invariant.0 c.self.view_is c.requires c.remove-slot.ensures.value c.index_mut.ensures.value (c.entry-entry.ensures ∙ c.swap.ensures.y_after)
+    c.remove-slot.ensures.others c.push.ensures.items c.clear_slot-self-inside.ensures.cleared refl).some
 
 pub overflow_sub-self : goal.overflow_sub-self
 overflow_sub-self c =
     (leaves _ c.args.self.now c.args.place c.remove-slot.result c.index_mut.result.now c.swap.new.x c.entry-entry.result.now
-    c.remove-slot.new.self c.push.new.self.items c.clear_slot.new.masks c.count_down.new.tag_counts c.self.invariant.0 c.self.view_is c.requires c.remove-slot.ensures.value c.index_mut.ensures.value (c.entry-entry.ensures ∙ c.swap.ensures.y_after)
-    c.remove-slot.ensures.others c.push.ensures.items c.clear_slot.ensures c.count_down.ensures).less
+    c.remove-slot.new.self c.push.new.self.items c.clear_slot-self-inside.new.masks c.count_down.new.tag_counts c.self.invariant.0 c.self.view_is c.requires c.remove-slot.ensures.value c.index_mut.ensures.value (c.entry-entry.ensures ∙ c.swap.ensures.y_after)
+    c.remove-slot.ensures.others c.push.ensures.items c.clear_slot-self-inside.ensures.cleared c.count_down.ensures).less
 
 pub invariant_of-self : goal.invariant_of-self
 invariant_of-self c =
     let left = (leaves _ c.args.self.now c.args.place c.remove-slot.result c.index_mut.result.now c.swap.new.x c.entry-entry.result.now
-    c.remove-slot.new.self c.push.new.self.items c.clear_slot.new.masks c.count_down.new.tag_counts c.self.invariant.0 c.self.view_is c.requires c.remove-slot.ensures.value c.index_mut.ensures.value (c.entry-entry.ensures ∙ c.swap.ensures.y_after)
-    c.remove-slot.ensures.others c.push.ensures.items c.clear_slot.ensures c.count_down.ensures) in (
+    c.remove-slot.new.self c.push.new.self.items c.clear_slot-self-inside.new.masks c.count_down.new.tag_counts c.self.invariant.0 c.self.view_is c.requires c.remove-slot.ensures.value c.index_mut.ensures.value (c.entry-entry.ensures ∙ c.swap.ensures.y_after)
+    c.remove-slot.ensures.others c.push.ensures.items c.clear_slot-self-inside.ensures.cleared c.count_down.ensures) in (
       left.sound,
       without_slot c.self.inside.order c.remove-slot.new.self c.self.inside.free.items c.push.new.self.items c.args.place c.remove-slot.result c.self.inside.passed c.without-self-inside.result
           (omega (arith, length-map c.self.inside.order (held_in c.self.inside.slots.items), ap length c.self.view_is, c.requires)) c.remove-slot.ensures.value c.self.invariant.0.taken left.sound.taken c.push.ensures.items left.sound.once c.remove-slot.ensures.others c.without-self-inside.ensures c.self.invariant.1,
@@ -31,16 +31,17 @@ invariant_of-self c =
           (slot_gone c.remove-slot.new.self c.self.inside.free.items c.push.new.self.items c.remove-slot.result c.push.ensures.items left.sound.small left.sound.once) left.sound.taken c.forget.ensures.room c.forget.ensures.others c.self.invariant.2,
       taken_without c.self.inside.order c.self.inside.free.items c.remove-slot.new.self c.push.new.self.items c.remove-slot.result c.self.inside.taken
           left.sound.small c.push.ensures.items c.self.invariant.0.once left.sound.once c.self.invariant.3,
+      c.clear_slot-self-inside.ensures.barred,
     )
 
 pub returns-clause-value : goal.returns-clause-value
 returns-clause-value c =
     (leaves _ c.args.self.now c.args.place c.remove-slot.result c.index_mut.result.now c.swap.new.x c.swap.new.y
-    c.remove-slot.new.self c.push.new.self.items c.clear_slot.new.masks (one_fewer c.self.inside.tag_counts c.swap.new.y.tag) c.self.invariant.0 c.self.view_is c.requires c.remove-slot.ensures.value c.index_mut.ensures.value c.swap.ensures.y_after
-    c.remove-slot.ensures.others c.push.ensures.items c.clear_slot.ensures refl).value
+    c.remove-slot.new.self c.push.new.self.items c.clear_slot-self-inside.new.masks (one_fewer c.self.inside.tag_counts c.swap.new.y.tag) c.self.invariant.0 c.self.view_is c.requires c.remove-slot.ensures.value c.index_mut.ensures.value c.swap.ensures.y_after
+    c.remove-slot.ensures.others c.push.ensures.items c.clear_slot-self-inside.ensures.cleared refl).value
 
 pub returns-clause-others : goal.returns-clause-others
 returns-clause-others c =
     (leaves _ c.args.self.now c.args.place c.remove-slot.result c.index_mut.result.now c.swap.new.x c.entry-entry.result.now
-    c.remove-slot.new.self c.push.new.self.items c.clear_slot.new.masks c.count_down.new.tag_counts c.self.invariant.0 c.self.view_is c.requires c.remove-slot.ensures.value c.index_mut.ensures.value (c.entry-entry.ensures ∙ c.swap.ensures.y_after)
-    c.remove-slot.ensures.others c.push.ensures.items c.clear_slot.ensures c.count_down.ensures).rest
+    c.remove-slot.new.self c.push.new.self.items c.clear_slot-self-inside.new.masks c.count_down.new.tag_counts c.self.invariant.0 c.self.view_is c.requires c.remove-slot.ensures.value c.index_mut.ensures.value (c.entry-entry.ensures ∙ c.swap.ensures.y_after)
+    c.remove-slot.ensures.others c.push.ensures.items c.clear_slot-self-inside.ensures.cleared c.count_down.ensures).rest
