@@ -133,7 +133,7 @@ pub fn write_line<K: Sink>(frame: OutFrame, sink: &mut K) -> Result<(), WriteFau
             managed_text(nexus, function, response, tag).as_slice(),
         ),
         OutFrame::End => push(sink, b"end\n"),
-        OutFrame::Fault { reason, offset } => { push(sink, fault_text(reason, offset).as_slice()) }
+        OutFrame::Fault { reason, offset } => push(sink, fault_text(reason, offset).as_slice()),
     }
 }
 
