@@ -7,7 +7,7 @@ use Rattle.std.specs.List.{AllByRecursion, AllZip, find, list_any, position_from
 use Rattle.std.proofs.lemmas.Bool.{cases_eq, cases_lt, eqb-false}
 use Rattle.std.proofs.lemmas.Nat.Bits.{bit_at_or}
 use Rattle.std.proofs.lemmas.List.{append-nil, length-map}
-use Rattle.std.proofs.lemmas.Option.{slice_get_within}
+use Rattle.std.proofs.lemmas.Option.{slice_get-map, slice_get_within}
 use Rattle.satl_base.specs.declared.block.Block.{Block}
 use Rattle.satl_base.specs.Lists.{remove_first, change_at}
 use Rattle.satl_base.specs.Identify.{has_queued_trim}
@@ -28,10 +28,10 @@ use Rattle.satl_pages.specs.Slots.{pages_at}
 use Rattle.satl_flight.specs.declared.flight.Flying.{Flying}
 use Rattle.satl_flight.specs.Flown.{AreApart, IsFlown, IsInFlight, clash, is_outstanding, is_in_slot, queued_for, is_of_slot}
 use Rattle.satl_flight.specs.Lending.{IsLending, Waiting, has_tag, waiting, whole_task, whole_tasks, with_own_pages}
-use Rattle.satl_flight.specs.Settled.{IsBefore, IsFilled, IsIssuedIfItMay, IsLaunched, IsLostQuietly, IssuesAtMost, NeedsNoIssue, OnDrive, on_drive}
+use Rattle.satl_flight.specs.Settled.{IsBefore, IsFilled, IsIssuedIfItMay, IsLaunched, IsLostQuietly, IssuesAtMost, NeedsIssue, OnDrive, on_drive}
 use Rattle.satl_flight.specs.Tags.{AreHeld}
 use Rattle.satl_flight.proofs.TagsLemmas.{told_by_zero}
-use Rattle.satl_flight.proofs.ZipLemmas.{get-mapped, passed_from}
+use Rattle.satl_flight.proofs.ZipLemmas.{get-mapped, passed_from, passes_from}
 use Rattle.satl_flight.proofs.FlownLemmas.{FitsOn}
 use Rattle.satl_flight.proofs.LendingLemmas.{at_found, find-none, get-set, lend_lending, lend_same, whole_get, whole-slots}
 use Rattle.satl_flight.proofs.LaunchedLemmas.{can_issue, deepens_same, launched_one, lost_issue, queued_fits}
@@ -68,10 +68,20 @@ length-whole flying slots tasks = length-map tasks (whole_task flying slots)
 pub launched_none : (queue : Waiting) (old : DriveState) → IsInFlight queue.flying queue.tasks old → IsLaunched (on_drive queue old) (on_drive queue old)
 launched_none queue old tie = record { tie = tie; rest = []; more = sym (append-nil queue.flying); lost = inl refl; stays = refl; deep = deepens_same old }
 
--- a task that waits for an earlier one may not be issued
-pub covered_barred : (flying : List Flying) (slots : Slots) (tasks whole : List Held) → whole_tasks flying slots tasks ≡ whole → (place : ℕ) → eligible_at (entries_of tasks) place ≡ false → IsIssuedIfItMay flying whole place
-covered_barred flying slots tasks whole same place barred =
-    inr (λ h task at passes ranged. let no_pass : true ≡ false = sym passes ∙ ap (λ ts. eligible_by clash ts place) (sym same) ∙ same_test flying slots tasks place ∙ barred in absurd cc)
+-- the slot of a task, with its pages or without
+whole_slot : (flying : List Flying) (slots : Slots) (tasks : List Held) (place : ℕ) (h : Held) → slice_get (whole_tasks flying slots tasks) place ≡ Some h → slice_get (slots_of tasks) place ≡ Some h.slot
+whole_slot flying slots tasks place h at = ap (λ l. slice_get l place) (sym (whole-slots flying slots tasks)) ∙ get-map (λ (x : Held). x.slot) (whole_tasks flying slots tasks) place h at
+
+-- one that needs no issue is covered, and each is where no tag is free
+pub covered_kept : (flying : List Flying) (slots : Slots) (tasks : List Held) (place : ℕ) → (NeedsIssue flying tasks place → length flying ≡ 32) → IsIssuedIfItMay flying (whole_tasks flying slots tasks) place
+covered_kept flying slots tasks place otherwise = ⊎_elim inl (λ room. inr (λ h task at passes ranged. held room h at passes (is_outstanding flying h.slot) refl)) (cases_eq (length flying) 32)
+  where
+    held : (length flying ≡ 32 → ⊥) → (h : Held) → slice_get (whole_tasks flying slots tasks) place ≡ Some h → eligible_by clash (whole_tasks flying slots tasks) place ≡ true → (b : Bool) → is_outstanding flying h.slot ≡ b → is_outstanding flying h.slot ≡ true
+    held room h at passes true there = there
+    held room h at passes false fresh = absurd (room (otherwise (record {
+      eligible = sym (same_test flying slots tasks place) ∙ passes;
+      fresh = λ slot in_slot. let same : Some slot ≡ Some h.slot = sym in_slot ∙ whole_slot flying slots tasks place h at in let one : slot ≡ h.slot = cc in ap (is_outstanding flying) one ∙ fresh;
+    })))
 
 module _ (flying : List Flying) (slots : Slots) (tasks : List Held) (lending : IsLending flying slots tasks) (old : DriveState) (tie : IsInFlight flying (whole_tasks flying slots tasks) old)
     (place slot : ℕ) (entry : Entry) (is : entry_at tasks place ≡ Some entry) (in_slot : slice_get (slots_of tasks) place ≡ Some slot) (alone : count_of slot (slots_of tasks) ≡ 1) where
@@ -98,15 +108,6 @@ module _ (flying : List Flying) (slots : Slots) (tasks : List Held) (lending : I
           let same : Some h ≡ Some (record { slot = slot; entry = entry }) = sym at ∙ whole_stands ∙ ap Some (bare fresh) in
           let one : h ≡ record { slot = slot; entry = entry } = cc in
           let clash_of : Some task ≡ None = sym ranged ∙ ap (λ (x : Held). ranged_of x.entry) one ∙ none in absurd cc
-
-  -- one that may not be issued is outstanding, or not eligible, or no tag is free
-  pub covered_kept : (eligible_at (entries_of tasks) place ≡ true → is_outstanding flying slot ≡ false → length flying ≡ 32) → IsIssuedIfItMay flying (whole_tasks flying slots tasks) place
-  covered_kept otherwise = go (is_outstanding flying slot) refl (eligible_at (entries_of tasks) place) refl
-    where
-      go : (b : Bool) → is_outstanding flying slot ≡ b → (e : Bool) → eligible_at (entries_of tasks) place ≡ e → IsIssuedIfItMay flying (whole_tasks flying slots tasks) place
-      go true held e test = inr (λ h task at passes ranged. ap (is_outstanding flying) (its_slot h at) ∙ held)
-      go false fresh true test = inl (otherwise test fresh)
-      go false fresh false test = covered_barred flying slots tasks _ refl place test
 
   -- one is issued
   module _ (fresh : is_outstanding flying slot ≡ false) (passes : eligible_at (entries_of tasks) place ≡ true) (task : RangedTask) (ranged : ranged_of entry ≡ Some task) (tag : ℕ) (small : tag < 32) (free : list_any (has_tag tag) flying ≡ false) where
@@ -188,37 +189,53 @@ as_many flying flying' slots slots' tasks tasks' same = sym (length-whole flying
 pub next_within : (tasks : List Held) (from place : ℕ) (next : Option ℕ) → IfSome next (λ found. (from ≤ found) × (found < length tasks)) → next ≡ Some place → (from ≤ place) × (place < length tasks)
 next_within tasks from place next within found = subst (λ o. IfSome o (λ found. (from ≤ found) × (found < length tasks))) found within
 
--- between, each task is outstanding or waits for an earlier one
+nothing_there : (tasks : List Held) (place : ℕ) → slice_get tasks place ≡ None → eligible_at (entries_of tasks) place ≡ false
+nothing_there tasks place none =
+    ap (λ o. unwrap_or (option_map (is_clear_by conflicts (take place (entries_of tasks))) o) false) (slice_get-map (λ (h : Held). h.entry) tasks place ∙ ap (option_map (λ (h : Held). h.entry)) none)
+
+-- between, none needs to be issued
 pub needs_none : (held barred : ℕ) (flying : List Flying) (tasks : List Held) (from : ℕ) (next : Option ℕ) → AreHeld held flying → IsBarredMask tasks barred → next ≡ position_from (λ slot. bit_at (bit_or held barred) slot == 0) from (drop from (slots_of tasks))
-    → (place : ℕ) → from ≤ place → IsBefore place next → NeedsNoIssue flying tasks place
-needs_none held barred flying tasks from next are mask is place behind before slot at =
-    let h = get-mapped (λ (x : Held). x.slot) tasks place slot at in
-    let some = passed_from (λ slot. bit_at (bit_or held barred) slot == 0) (slots_of tasks) from next is place slot behind at before in
-    go (is_outstanding flying slot) refl (eligible_at (entries_of tasks) place) refl some (sym (ap (bit_at barred) h.1.1) ∙ mask place h.0 h.1.0)
+    → (place : ℕ) → from ≤ place → IsBefore place next → NeedsIssue flying tasks place → ⊥
+needs_none held barred flying tasks from next are mask is place behind before needed = go (slice_get tasks place) refl
   where
-    go : (b : Bool) → is_outstanding flying slot ≡ b → (e : Bool) → eligible_at (entries_of tasks) place ≡ e → (bit_at (bit_or held barred) slot == 0) ≡ false → bit_at barred slot ≡ (if eligible_at (entries_of tasks) place then 0 else 1)
-        → (is_outstanding flying slot ≡ true) ⊎ (eligible_at (entries_of tasks) place ≡ false)
-    go true held_there e e_is some bit = inl held_there
-    go false fresh false e_is some bit = inr e_is
-    go false fresh true e_is some bit =
-        let one : bit_at held slot ≡ 0 = eqb-true (bit_at held slot) 0 (told_by_zero held flying slot are ∙ ap not fresh) in
-        let other : bit_at barred slot ≡ 0 = bit ∙ ap (λ b. if b then 0 else 1) e_is in
-        absurd (eqb-false (bit_at (bit_or held barred) slot) 0 some (omega (arith, one, other, bit_at_or held barred slot)))
+    go : (o : Option Held) → slice_get tasks place ≡ o → ⊥
+    go None none = let no : true ≡ false = sym needed.eligible ∙ nothing_there tasks place none in absurd cc
+    go (Some h) at =
+        let in_slot = get-map (λ (x : Held). x.slot) tasks place h at in
+        let some = passed_from (λ slot. bit_at (bit_or held barred) slot == 0) (slots_of tasks) from next is place h.slot behind in_slot before in
+        let one : bit_at held h.slot ≡ 0 = eqb-true (bit_at held h.slot) 0 (told_by_zero held flying h.slot are ∙ ap not (needed.fresh h.slot in_slot)) in
+        let other : bit_at barred h.slot ≡ 0 = mask place h at ∙ ap (λ b. if b then 0 else 1) needed.eligible in
+        eqb-false (bit_at (bit_or held barred) h.slot) 0 some (omega (arith, one, other, bit_at_or held barred h.slot))
+
+-- the task that is found needs to be issued
+pub needs_issue : (held barred : ℕ) (flying : List Flying) (tasks : List Held) (from : ℕ) (next : Option ℕ) → AreHeld held flying → IsBarredMask tasks barred → next ≡ position_from (λ slot. bit_at (bit_or held barred) slot == 0) from (drop from (slots_of tasks))
+    → IfSome next (NeedsIssue flying tasks)
+needs_issue held barred flying tasks from None are mask is = tt
+needs_issue held barred flying tasks from (Some place) are mask is =
+    let there = passes_from (λ slot. bit_at (bit_or held barred) slot == 0) (slots_of tasks) from place is in
+    let h = get-mapped (λ (x : Held). x.slot) tasks place there.0 there.1 in
+    let neither : bit_at (bit_or held barred) there.0 ≡ 0 = eqb-true (bit_at (bit_or held barred) there.0) 0 there.2 in
+    record {
+      eligible = passes (eligible_at (entries_of tasks) place) refl (omega (arith, sym (mask place h.0 h.1.0), ap (bit_at barred) h.1.1, neither, bit_at_or held barred there.0));
+      fresh = λ slot at. let same : Some slot ≡ Some there.0 = sym at ∙ there.1 in let one : slot ≡ there.0 = cc in
+          ap (is_outstanding flying) one ∙ free (is_outstanding flying there.0) (told_by_zero held flying there.0 are) (omega (arith, neither, bit_at_or held barred there.0));
+    }
+  where
+    passes : (e : Bool) → eligible_at (entries_of tasks) place ≡ e → ◌≡◌ {A = ℕ} (if eligible_at (entries_of tasks) place then 0 else 1) 0 → eligible_at (entries_of tasks) place ≡ true
+    passes true is_so zero_is = is_so
+    passes false is_so zero_is = let one : ◌≡◌ {A = ℕ} 1 0 = ap (λ b. if b then 0 else 1) (sym is_so) ∙ zero_is in absurd (omega (arith, one))
+
+    free : {bit : ℕ} (b : Bool) → (bit == 0) ≡ not b → bit ≡ 0 → b ≡ false
+    free false told none = refl
+    free {bit} true told none = let no : true ≡ false = sym (eq-eqb bit 0 none) ∙ told in absurd cc
 
 -- where each place up to this one is covered, so is each before the next task that is not outstanding
-pub covered_before : (flying : List Flying) (slots : Slots) (tasks whole : List Held) → whole_tasks flying slots tasks ≡ whole → (from : ℕ) (next : Option ℕ) → ((place : ℕ) → from ≤ place → IsBefore place next → NeedsNoIssue flying tasks place)
+pub covered_before : (flying : List Flying) (slots : Slots) (tasks whole : List Held) → whole_tasks flying slots tasks ≡ whole → (from : ℕ) (next : Option ℕ) → ((place : ℕ) → from ≤ place → IsBefore place next → NeedsIssue flying tasks place → ⊥)
     → ((k : ℕ) → k < from → IsIssuedIfItMay flying whole k) → (k : ℕ) → IsBefore k next → IsIssuedIfItMay flying whole k
 covered_before flying slots tasks whole same from next none covered k before =
-    ⊎_elim
-    (λ below. covered k below)
-    (λ behind. inr (λ h task at passes ranged. ⊎_elim
-    (λ held. held)
-    (λ barred. let no_pass : true ≡ false = sym passes ∙ ap (λ ts. eligible_by clash ts k) (sym same) ∙ same_test flying slots tasks k ∙ barred in absurd cc)
-    (none k behind before h.slot (in_slot h at))))
+    ⊎_elim (λ below. covered k below)
+    (λ behind. subst (λ ts. IsIssuedIfItMay flying ts k) same (covered_kept flying slots tasks k (λ needed. absurd (none k behind before needed))))
     (cases_lt k from)
-  where
-    in_slot : (h : Held) → slice_get whole k ≡ Some h → slice_get (slots_of tasks) k ≡ Some h.slot
-    in_slot h at = ap (λ l. slice_get l k) (sym (whole-slots flying slots tasks) ∙ ap slots_of same) ∙ get-map (λ (x : Held). x.slot) whole k h at
 
 -- where each place is covered the queue is used
 pub filled : (flying : List Flying) (tasks : List Held) → ((k : ℕ) → k < length tasks → IsIssuedIfItMay flying tasks k) → IsFilled flying tasks

@@ -177,10 +177,10 @@ abbrev pub IsBefore : ℕ → Option ℕ → Type 0
 IsBefore place None = Unit {0}
 IsBefore place (Some found) = place < found
 
--- the task at a place is outstanding, or not eligible (profile)
-abbrev pub NeedsNoIssue : List Flying → List Held → ℕ → Type 0
-NeedsNoIssue flying tasks place = (slot : ℕ) → slice_get (slots_of tasks) place ≡ Some slot →
-    (is_outstanding flying slot ≡ true) ⊎ (eligible_at (entries_of tasks) place ≡ false)
+-- the task at a place is eligible and not outstanding (profile)
+pub record NeedsIssue (flying : List Flying) (tasks : List Held) (place : ℕ) : Type 0 where
+  pub eligible : eligible_at (entries_of tasks) place ≡ true
+  pub fresh : (slot : ℕ) → slice_get (slots_of tasks) place ≡ Some slot → is_outstanding flying slot ≡ false
 
 -- the queue is used: 32 tasks are outstanding, or each eligible ranged task is (profile)
 abbrev pub IsFilled : List Flying → List Held → Type 0

@@ -174,13 +174,12 @@ impl Queue {
         ensures fit { IsFit (D.state drive.old) → IsFit (D.state drive.new) }
         ensures steps { steps.new ≤ steps.old + 1 }
     {
-        // No tag is free, so the task waits without a look at it.
-        if self.flight.is_full() {
+        let place = self.set.len() - 1;
+        if !self.flight.may_issue(place, &self.set) {
             return Ok(());
         }
-        let place = self.set.len() - 1;
         self.flight
-            .launch_one(place, &mut self.set, &mut self.dma, drive, steps)
+            .issue_at(place, &mut self.set, &mut self.dma, drive, steps)
     }
 
     /// Puts pages into the last task, which has none and is not outstanding (profile).

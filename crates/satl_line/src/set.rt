@@ -207,7 +207,7 @@ impl TaskSet {
     pub fn barred(&self) -> u64
         ensures { IsBarredMask self.now result }
     {
-        are_numbers(&self.masks);
+        have_64_bits(&self.masks);
         self.barred
     }
 
@@ -358,7 +358,7 @@ fn mask_at(masks: &[u64], slot: u8) -> u64
 }
 
 /// Says of masks that they have no bit above that of the last slot.
-fn are_numbers(masks: &[u64])
+fn have_64_bits(masks: &[u64])
     ensures { (slot : ℕ) → slice_index masks.now slot < 2 ^ 64 }
 {}
 
