@@ -40,6 +40,8 @@ impl<'a> Slice<'a> {
 impl<'a> Source for Slice<'a> {
     ghost left = { λ s. Some s };
 
+    ghost ahead = { λ s. s };
+
     ghost faults = { λ _. 0 };
 
     fn read(&mut self, buf: &mut [u8]) -> Result<usize, Failed>
@@ -51,5 +53,16 @@ impl<'a> Source for Slice<'a> {
         buf[..count].copy_from_slice(&self.rest[..count]);
         self.rest = &self.rest[count..];
         Ok(count)
+    }
+    fn read_ahead(&mut self) -> Result<(), Failed> {
+        Ok(())
+    }
+
+    fn ahead(&self) -> &[u8] {
+        self.rest
+    }
+
+    fn consume(&mut self, count: usize) {
+        self.rest = &self.rest[count..];
     }
 }

@@ -1,12 +1,14 @@
 -- Bytes in pages.
-use Rattle.std.proofs.Common.{◌≡◌, ℕ, zero, suc, ◌+◌, ◌-◌, ◌*◌, ◌/◌, ◌%◌, ◌<◌, ◌≤◌, min, List, [], ◌∷◌, ◌++◌, length, take, drop, reverse, replicate, refl, ◌∙◌, ap, sym, arith, append_assoc, inl, inr}
+use Rattle.std.proofs.Common.{◌≡◌, ℕ, zero, suc, ◌+◌, ◌-◌, ◌*◌, ◌/◌, ◌%◌, ◌<◌, ◌≤◌, min, List, [], ◌∷◌, ◌++◌, length, take, drop, reverse, replicate, refl, ◌∙◌, ap, sym, arith, append_assoc, inl, inr, Option}
 use Rattle.std.proofs.lemmas.Bool.{cases_lt}
 use Rattle.std.proofs.lemmas.List.{take-append-drop, length-drop, length-append, length-take-le, length-replicate, length-reverse, reverse-append, reverse-reverse, take-append-le, drop-append-le, take_all, take_at, append-nil, replicate-append-replicate, drop-replicate, take-replicate, nil_from_length, length-take, drop_all}
 use Rattle.std.proofs.Math.Seq.{take-append-add, drop-append-add}
 use Rattle.std.specs.List.{AllByRecursion}
 use Rattle.satl_base.specs.declared.block.Block.{Block}
 use Rattle.satl_base.specs.Blocks.{blocks_from, bytes_of, zero_bytes}
+use Rattle.satl_io.proofs.Joined.{Took-more, Took-none}
 use Rattle.satl_frame.specs.DataPages.{page_count, padded_block, pages_from, pages_of}
+use Rattle.satl_frame.specs.Pulls.{FilledInReverse}
 
 -- 512 bytes are a block
 pub whole_block : (xs bytes : List ℕ) → 512 ≤ length xs → bytes ≡ take 512 xs → record { bytes = bytes } ≡ padded_block xs
@@ -133,6 +135,18 @@ chunk_placed count m chunk behind buffer size is =
     let same : min n m ≡ min m n = omega arith in
     ap (λ k. pages_from k buffer) same ∙ sym (take-pages_from m n buffer) ∙ ap (take m) front
 
+-- whole pages at the front of bytes, where so many pages are free
+pub pages_ahead : (n room : ℕ) (ahead : List ℕ) → 512 * n ≤ length ahead → n ≤ room → pages_from n ahead ≡ take room (pages_of (take (512 * n) ahead))
+unfolding pages_from pages_of
+pages_ahead n room ahead within few =
+    let front = take (512 * n) ahead in
+    let size : length front ≡ 512 * n = length-take-le (512 * n) ahead within in
+    let count : page_count (length front) ≡ n = omega (arith, size) in
+    let sum : n ≡ n + 0 = omega arith in
+    ap (pages_from n) (sym (take-append-drop (512 * n) ahead)) ∙ ap (λ k. pages_from k (front ++ drop (512 * n) ahead)) sum
+    ∙ pages_from-append n 0 front (drop (512 * n) ahead) size ∙ append-nil (pages_from n front)
+    ∙ sym (take_all room (pages_from n front) (omega (arith, length-pages_from n front, few))) ∙ ap (λ k. take room (pages_from k front)) (sym count)
+
 -- the bytes of pages
 bytes_of-pages_from : (n : ℕ) (xs : List ℕ) → length xs ≤ 512 * n → bytes_of (pages_from n xs) ≡ xs ++ replicate (512 * n - length xs) 0
 unfolding pages_from padded_block
@@ -177,20 +191,34 @@ take-both zero xs ys = let e : 0 - length xs ≡ 0 = omega arith in rw e refl
 take-both (suc n) [] ys = let e : suc n ≡ suc n - 0 = omega arith in ap (λ k. take k ys) e
 take-both (suc n) (x ∷ xs) ys = let e : suc n - suc (length xs) ≡ n - length xs = omega arith in rw e (ap (λ zs. x ∷ zs) (take-both n xs ys))
 
--- a chunk more in the pages
-pub placed_more : (room left at : ℕ) (before chunk : List ℕ) (done done' : List Block) → length before ≡ at → at % 4096 ≡ 0 →
-    reverse done ≡ take room (pages_of before) → left + length done ≡ room → reverse done' ≡ reverse done ++ take left (pages_of chunk) →
-    reverse done' ≡ take room (pages_of (before ++ chunk))
-placed_more room left at before chunk done done' size aligned placed all more =
-    let whole : length before ≡ 512 * (at / 512) = omega arith in
-    let filled : length done ≡ min room (length (pages_of before)) = sym (length-reverse done) ∙ ap length placed ∙ length-take room (pages_of before) in
-    let rest : left ≡ room - length (pages_of before) = omega arith in
-    rw (pages_of-append (at / 512) before chunk whole, take-both room (pages_of before) (pages_of chunk), ← rest, ← placed) more
+-- pages filled behind pages
+pub filled_more : {a b c : Option (List ℕ)} {at count room left : ℕ} {old done done' : List Block} → FilledInReverse a b at room old done
+    → at % 512 ≡ 0 → left + length done ≡ room + length old → FilledInReverse b c count left done done' → FilledInReverse a c (at + count) room old done'
+filled_more {a} {b} {c} {at} {count} {room} {left} {old} {done} {done'} first aligned all more =
+    let before = pages_of first.taken in
+    let whole : length first.taken ≡ 512 * (at / 512) = omega (arith, first.size, aligned) in
+    let filled : length done ≡ length old + length (take room before) =
+    sym (length-reverse done) ∙ ap length first.placed ∙ length-append (reverse old) (take room before) ∙ ap (λ n. n + length (take room before)) (length-reverse old) in
+    let rest : left ≡ room - length before = omega (arith, all, filled, length-take room before) in
+    let both : take room before ++ take left (pages_of more.taken) ≡ take room (pages_of (first.taken ++ more.taken)) =
+    rw (pages_of-append (at / 512) first.taken more.taken whole, take-both room before (pages_of more.taken), ← rest) refl in
+    record {
+      taken = first.taken ++ more.taken;
+      took = Took-more first.took more.took;
+      size = length-append first.taken more.taken ∙ omega (arith, first.size, more.size);
+      placed = more.placed ∙ ap (λ bs. bs ++ take left (pages_of more.taken)) first.placed
+          ∙ append_assoc (reverse old) (take room before) (take left (pages_of more.taken)) ∙ ap (λ bs. reverse old ++ bs) both;
+    }
 
 pub nothing_placed : (room : ℕ) (done : List Block) → done ≡ [] → reverse done ≡ take room (pages_of [])
 unfolding pages_of pages_from
 nothing_placed zero done e = rw e refl
 nothing_placed (suc room) done e = rw e refl
+
+pub nothing_filled : (a : Option (List ℕ)) (room : ℕ) (old : List Block) → FilledInReverse a a 0 room old old
+unfolding pages_of pages_from
+nothing_filled a zero old = record { taken = []; took = Took-none a; size = refl; placed = sym (append-nil (reverse old)) }
+nothing_filled a (suc room) old = record { taken = []; took = Took-none a; size = refl; placed = sym (append-nil (reverse old)) }
 
 -- as many pages as were free, where no more were lent than the bytes need
 pub pages_free : (free n : ℕ) (taken : List ℕ) (pages : List Block) → length taken ≡ n → pages ≡ take (min (page_count n) free) (pages_of taken) → pages ≡ take free (pages_of taken)

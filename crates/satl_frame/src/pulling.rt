@@ -17,9 +17,9 @@ pub enum PullError {
     Failed,
 }
 
-/// Fills the buffer, or as much of its front as the source has bytes for, and gives their number (profile). `Failed` comes only
-/// where the source's count of faults rose; then fewer bytes were taken than the buffer has.
-pub fn fill<S: Source>(source: &mut S, buf: &mut [u8]) -> Result<usize, Failed>
+/// Fills the buffer by as many reads as it takes, as `fill` does.
+#[inline(never)]
+fn fill_by_reads<S: Source>(source: &mut S, buf: &mut [u8]) -> Result<usize, Failed>
     ensures bound { ReadsAtMost result buf.new }
     ensures bytes { IfOk result (λ n. Took (S.left source.old) (S.left source.new) (take n buf.new)) }
     ensures short { IfOk result (λ n. n < length buf.new → IsAtEnd (S.left source.new)) }
@@ -35,6 +35,29 @@ pub fn fill<S: Source>(source: &mut S, buf: &mut [u8]) -> Result<usize, Failed>
         at += count;
     }
     Ok(at)
+}
+
+/// Fills the buffer, or as much of its front as the source has bytes for, and gives their number (profile). `Failed` comes only
+/// where the source's count of faults rose; then fewer bytes were taken than the buffer has.
+pub fn fill<S: Source>(source: &mut S, buf: &mut [u8]) -> Result<usize, Failed>
+    ensures bound { ReadsAtMost result buf.new }
+    ensures bytes { IfOk result (λ n. Took (S.left source.old) (S.left source.new) (take n buf.new)) }
+    ensures short { IfOk result (λ n. n < length buf.new → IsAtEnd (S.left source.new)) }
+    ensures stopped { OnErr result (FewerThan (S.left source.old) (S.left source.new) (λ _. length buf.old)) }
+    ensures cause { HasCause (S.faults source.old) (S.faults source.new) result }
+{
+    let count = buf.len();
+    if count == 0 {
+        return Ok(0);
+    }
+    source.read_ahead()?;
+    let ahead = source.ahead();
+    if ahead.len() < count {
+        return fill_by_reads(source, buf);
+    }
+    buf.copy_from_slice(&ahead[..count]);
+    source.consume(count);
+    Ok(count)
 }
 
 /// Fills the whole buffer (profile). `Short` comes only where the source had fewer bytes, and `Failed` only where its count of

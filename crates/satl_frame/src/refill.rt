@@ -1,4 +1,4 @@
-// Data-out from the source into pages, in large reads.
+// Data-out from the source into pages.
 ghost use Rattle.std.specs.Prelude.{◌≡◌, ◌<◌, ◌≤◌, ◌+◌, ◌-◌, ◌*◌, ◌^◌, ◌++◌, [], IfOk, OnOk, length, take, drop, reverse};
 ghost use Rattle.satl_base.specs.Blocks.{zero_bytes};
 ghost use Rattle.satl_base.specs.Stocks.{HasLent};
@@ -7,14 +7,14 @@ ghost use Rattle.satl_frame.specs.Pulls.{PullCauses, Stopped, TookCount, TookPag
 
 use crate::pulling::{PullError, pull};
 use satl_base::{Lender, Pages};
-use satl_io::Source;
+use satl_io::{Failed, Source};
 
-/// The most bytes that one pull asks for: eight pages.
-pub const CHUNK: usize = 4096;
+/// The bytes of a page: so many go by a buffer where the source has read fewer ahead.
+pub const CHUNK: usize = 512;
 
 /// Blanks what stands behind so many bytes, up to the end of their last page.
 fn blank_rest(buffer: &mut [u8; CHUNK], count: usize)
-    requires { count ≤ 4096 }
+    requires { count ≤ 512 }
     ensures { buffer.new ≡ (take count buffer.old ++ zero_bytes (512 * page_count count - count))
         ++ drop (512 * page_count count) buffer.old }
 {
@@ -29,7 +29,7 @@ fn pull_chunk<S: Source>(
     todo: &mut Pages,
     done: &mut Pages,
 ) -> Result<(), PullError>
-    requires short { count ≤ 4096 }
+    requires short { count ≤ 512 }
     requires few { length todo.old + length done.old < 2 ^ 32 }
     ensures placed { OnOk result (FilledInReverse (S.left source.old) (S.left source.new) count (length todo.old)
         done.old done.new) }
@@ -43,6 +43,33 @@ fn pull_chunk<S: Source>(
     let pages = count.div_ceil(512) as u32;
     todo.move_filled(pages.min(todo.blocks()), buffer, done);
     Ok(())
+}
+
+/// Takes as many whole pages of at most `len` bytes as the source has read ahead and as there are pages, and gives their number.
+fn take_ahead<S: Source>(
+    source: &mut S,
+    len: u32,
+    todo: &mut Pages,
+    done: &mut Pages,
+) -> Result<u32, PullError>
+    requires some { 0 < len }
+    requires few { length todo.old + length done.old < 2 ^ 32 }
+    ensures placed { IfOk result (λ pages. FilledInReverse (S.left source.old) (S.left source.new) (512 * pages)
+        (length todo.old) done.old done.new) }
+    ensures within { IfOk result (λ pages. 512 * pages ≤ len) }
+    ensures same { length todo.new + length done.new ≡ length todo.old + length done.old }
+    ensures stopped { Stopped (S.left source.old) (S.left source.new) len result }
+    ensures causes { PullCauses (S.left source.old) (S.left source.new) len (S.faults source.old) (S.faults source.new) result }
+{
+    if let Err(Failed) = source.read_ahead() {
+        return Err(PullError::Failed);
+    }
+    let ahead = source.ahead();
+    let whole = ahead.len().min(len as usize) / 512;
+    let pages = (whole as u32).min(todo.blocks());
+    todo.move_filled(pages, ahead, done);
+    source.consume(512 * pages as usize);
+    Ok(pages)
 }
 
 /// Takes bytes into as many of the pages as there are, and moves the filled ones in reverse to `done`.
@@ -60,13 +87,15 @@ fn fill_pages<S: Source>(
     ensures stopped { Stopped (S.left source.old) (S.left source.new) len result }
     ensures causes { PullCauses (S.left source.old) (S.left source.new) len (S.faults source.old) (S.faults source.new) result }
 {
-    let len = len as usize;
     let mut at = 0;
     while at < len {
-        let count = (len - at).min(CHUNK);
-        match pull_chunk(source, buffer, count, todo, done) {
-            Ok(()) => at += count,
-            Err(error) => return Err(error),
+        let pages = take_ahead(source, len - at, todo, done)?;
+        if pages > 0 {
+            at += 512 * pages;
+        } else {
+            let count = (len - at).min(CHUNK as u32);
+            pull_chunk(source, buffer, count as usize, todo, done)?;
+            at += count;
         }
     }
     Ok(())

@@ -1,5 +1,5 @@
 // The generated input as a source.
-ghost use Rattle.std.specs.Prelude.{◌≡◌, Some, IsOk};
+ghost use Rattle.std.specs.Prelude.{◌≡◌, [], Some, IsOk};
 ghost use Rattle.std.specs.Io.{ReadsAtMost};
 ghost use Rattle.std.specs.Io.KnownBytes.{ReadConsumes};
 ghost use Rattle.satl_gen.specs.Generated.{generated};
@@ -58,6 +58,8 @@ impl GenSource {
 impl Source for GenSource {
     ghost left = { λ s. Some s };
 
+    ghost ahead = { λ _. [] };
+
     ghost faults = { λ _. 0 };
 
     fn read(&mut self, buf: &mut [u8]) -> Result<usize, Failed>
@@ -79,4 +81,14 @@ impl Source for GenSource {
             Err(_) => unreachable!(),
         }
     }
+    // What is made ahead is not shown: a reader asks for it by `read`.
+    fn read_ahead(&mut self) -> Result<(), Failed> {
+        Ok(())
+    }
+
+    fn ahead(&self) -> &[u8] {
+        &[]
+    }
+
+    fn consume(&mut self, _count: usize) {}
 }

@@ -1,8 +1,10 @@
 -- Reads after reads and writes after writes, where the bytes are known.
-use Rattle.std.proofs.Common.{◌≡◌, List, [], ◌++◌, ℕ, refl, sym, ◌∙◌, ap, append_assoc, Some, None, length, take, min, ◌+◌, arith, inl, inr}
+use Rattle.std.proofs.Common.{◌≡◌, List, [], ◌++◌, ℕ, refl, sym, subst, ◌∙◌, ap, append_assoc, Some, None, IfSome, length, take, min, ◌+◌, ◌≤◌, take-take, take-append-drop, arith, inl, inr}
 use Rattle.std.proofs.lemmas.List.{append-nil}
 use Rattle.std.specs.declared.option.Option.{Option}
-use Rattle.std.specs.Io.KnownBytes.{Consumes, Appends}
+use Rattle.std.specs.Io.{StartsWith}
+use Rattle.std.specs.Io.BufRead.{DropsConsumable}
+use Rattle.std.specs.Io.KnownBytes.{Keeps, Consumes, Appends}
 use Rattle.std.proofs.Math.Seq.{take-append-add, take-length}
 use Rattle.std.proofs.lemmas.List.{take-append-le, take_all}
 use Rattle.std.proofs.lemmas.Bool.{cases_lt}
@@ -32,9 +34,26 @@ appends_none (Some l) = sym (append-nil l)
 pub Took-more : {a b c : Option (List ℕ)} {xs ys : List ℕ} → Took a b xs → Took b c ys → Took a c (xs ++ ys)
 Took-more {a} {b} {c} {xs} {ys} p q = record { known = consumes_more a b c xs ys p.known q.known }
 
+-- a read after a call that takes nothing
+pub Took-kept : {a b c : Option (List ℕ)} {xs : List ℕ} → Keeps a b → Took b c xs → Took a c xs
+Took-kept {a = None} kept took = record { known = tt }
+Took-kept {a = Some l} {b = None} kept took = absurd kept
+Took-kept {a = Some l} {b = Some m} {c} {xs} kept took = record { known = subst (λ bytes. Consumes (Some bytes) c xs) kept took.known }
+
 -- no read
 pub Took-none : (a : Option (List ℕ)) → Took a a []
 Took-none a = record { known = consumes_none a }
+
+consumes_front : (a b : Option (List ℕ)) (front : List ℕ) (n : ℕ) → n ≤ length front → IfSome a (λ bytes. StartsWith bytes front)
+    → DropsConsumable a b (Some (length front)) n → Consumes a b (take n front)
+consumes_front None b front n within starts dropped = tt
+consumes_front (Some l) b front n within starts dropped =
+    rw (dropped within, sym starts, take-take n (length front) l within) (sym (take-append-drop n l))
+
+-- a read of a part of what was read ahead
+pub Took-front : (a b : Option (List ℕ)) (front : List ℕ) (n : ℕ) → n ≤ length front → IfSome a (λ bytes. StartsWith bytes front)
+    → DropsConsumable a b (Some (length front)) n → Took a b (take n front)
+Took-front a b front n within starts dropped = record { known = consumes_front a b front n within starts dropped }
 
 -- a write after a write
 pub Wrote-more : {a b c : Option (List ℕ)} {xs ys : List ℕ} → Wrote a b xs → Wrote b c ys → Wrote a c (xs ++ ys)

@@ -1,7 +1,7 @@
 // Sources and sinks in memory, for tests: they cut the bytes in pieces, and fail at stated calls.
 ghost use Rattle.std.specs.Prelude.{◌≡◌, ◌<◌, ◌≤◌, ◌+◌, ◌-◌, [], ◌++◌, ◌⊎◌, ◌↔◌, IfOk, IsOk, IsErr, IsTrue, MatchResult, Contains, Some, min, length, take, drop};
 ghost use Rattle.std.specs.Io.{ReadsAtMost, WritesAtMost};
-ghost use Rattle.std.specs.Io.KnownBytes.{ReadConsumes, WriteAppends};
+ghost use Rattle.std.specs.Io.KnownBytes.{Keeps, ReadConsumes, WriteAppends};
 ghost use Rattle.satl_io.specs.Causes.{HasCause, next_count};
 
 use crate::sink::Sink;
@@ -73,10 +73,29 @@ impl MemorySource {
             faults: 0,
         }
     }
+
+    /// Counts a call, which fails or not.
+    fn begin_call(&mut self) -> Result<(), Failed>
+        ensures cause { HasCause self.old.faults self.new.faults result }
+        ensures fails { IsErr result ↔ Contains self.old.failing self.old.calls }
+        ensures after { MatchResult result
+            (λ _. self.new ≡ record self.old { calls = next_count self.old.calls })
+            (λ _. self.new ≡ record self.old { calls = next_count self.old.calls; faults = next_count self.old.faults }) }
+    {
+        let call = self.calls;
+        self.calls = call.saturating_add(1);
+        if is_failing(&self.failing, call) {
+            self.faults = self.faults.saturating_add(1);
+            return Err(Failed);
+        }
+        Ok(())
+    }
 }
 
 impl Source for MemorySource {
     ghost left = { λ s. Some s.left };
+
+    ghost ahead = { λ s. take s.piece s.left };
 
     ghost faults = { λ s. s.faults };
 
@@ -90,15 +109,27 @@ impl Source for MemorySource {
             (λ n. self.new ≡ record self.old { left = drop n self.old.left; calls = next_count self.old.calls })
             (λ _. self.new ≡ record self.old { calls = next_count self.old.calls; faults = next_count self.old.faults }) }
     {
-        let call = self.calls;
-        self.calls = call.saturating_add(1);
-        if is_failing(&self.failing, call) {
-            self.faults = self.faults.saturating_add(1);
-            return Err(Failed);
-        }
+        self.begin_call()?;
         let count = copy_front(&self.bytes[self.at..], buf, self.piece);
         self.at += count;
         Ok(count)
+    }
+
+    fn read_ahead(&mut self) -> Result<(), Failed>
+        ensures bytes { Keeps (Some self.old.left) (Some self.new.left) }
+        ensures cause { HasCause self.old.faults self.new.faults result }
+        ensures fails { IsErr result ↔ Contains self.old.failing self.old.calls }
+    {
+        self.begin_call()
+    }
+
+    fn ahead(&self) -> &[u8] {
+        let left = &self.bytes[self.at..];
+        &left[..left.len().min(self.piece)]
+    }
+
+    fn consume(&mut self, count: usize) {
+        self.at += count;
     }
 }
 
@@ -131,6 +162,8 @@ impl NeverFails {
 impl Source for NeverFails {
     ghost left = { λ s. Some s };
 
+    ghost ahead = { λ s. s };
+
     ghost faults = { λ _. 0 };
 
     fn read(&mut self, buf: &mut [u8]) -> Result<usize, Failed>
@@ -143,6 +176,22 @@ impl Source for NeverFails {
         let count = copy_front(&self.bytes[self.at..], buf, usize::MAX);
         self.at += count;
         Ok(count)
+    }
+
+    fn read_ahead(&mut self) -> Result<(), Failed>
+        ensures bytes { Keeps (Some self.old) (Some self.new) }
+        ensures cause { HasCause 0 0 result }
+        ensures ok { IsOk result }
+    {
+        Ok(())
+    }
+
+    fn ahead(&self) -> &[u8] {
+        &self.bytes[self.at..]
+    }
+
+    fn consume(&mut self, count: usize) {
+        self.at += count;
     }
 }
 

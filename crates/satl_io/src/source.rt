@@ -1,9 +1,10 @@
 // A source of bytes.
-ghost use Rattle.std.specs.Prelude.{◌<◌, List, ℕ, length};
+ghost use Rattle.std.specs.Prelude.{◌≡◌, ◌<◌, ◌≤◌, List, ℕ, length, take, IfSome};
 ghost use Rattle.std.specs.declared.option.Option.{Option};
-ghost use Rattle.std.specs.Io.{ReadsAtMost};
-ghost use Rattle.std.specs.Io.KnownBytes.{ReadConsumes};
+ghost use Rattle.std.specs.Io.{ReadsAtMost, StartsWith};
+ghost use Rattle.std.specs.Io.KnownBytes.{Keeps, ReadConsumes};
 ghost use Rattle.satl_io.specs.Causes.{HasCause};
+ghost use Rattle.satl_io.specs.Known.{Took};
 
 /// A read or a write failed: it took or wrote nothing, and the count of faults rose (profile).
 #[derive(Clone, Copy, Debug, PartialEq, Eq)]
@@ -13,6 +14,9 @@ pub struct Failed;
 pub trait Source {
     /// The bytes that are left, where the source tells them.
     ghost left: { Self → Option (List ℕ) };
+
+    /// The bytes that the source has read ahead: a front of those that are left.
+    ghost ahead: { Self → List ℕ };
 
     /// How often a read has failed. The count never falls, and stands still at 2^64 - 1.
     ghost faults: { Self → ℕ };
@@ -24,4 +28,20 @@ pub trait Source {
         ensures bound { ReadsAtMost result buf.new }
         ensures bytes { ReadConsumes (left self.old) (left self.new) result buf.new }
         ensures cause { HasCause (faults self.old) (faults self.new) result };
+
+    /// Reads ahead where nothing is read ahead yet. No byte is taken. `Failed` comes as from `read`.
+    fn read_ahead(&mut self) -> Result<(), Failed>
+        ensures bytes { Keeps (left self.old) (left self.new) }
+        ensures cause { HasCause (faults self.old) (faults self.new) result };
+
+    /// The bytes that are read ahead.
+    fn ahead(&self) -> &[u8]
+        ensures value { result.now ≡ ahead self.now }
+        ensures front { IfSome (left self.now) (λ bytes. StartsWith bytes result.now) };
+
+    /// Takes the first `count` of the bytes that are read ahead.
+    fn consume(&mut self, count: usize)
+        requires { count ≤ length (ahead self.old) }
+        ensures bytes { Took (left self.old) (left self.new) (take count (ahead self.old)) }
+        ensures faults { faults self.new ≡ faults self.old };
 }

@@ -6,28 +6,39 @@ ghost use Rattle.satl_io.specs.Causes.{HasCause, next_count};
 
 use crate::sink::Sink;
 use crate::source::{Failed, Source};
-use std::io::{Read, Write};
+use std::io::{BufRead, BufReader, Read, Write};
 use std::marker::Model;
 
-/// A source over a reader of std. Each error of the reader is a fault (profile).
+/// A source over a buffered reader of std. Each error of the reader is a fault (profile).
 #[derive(Drop)]
 pub struct StdSource<R: Read + Drop> {
-    inner: R,
+    inner: BufReader<R>,
     faults: u64,
 }
 
 impl<R: Read + Drop> Model for StdSource<R> {
-    ghost use Rattle.satl_io.specs.Streams.{Stream};
+    ghost use Rattle.std.specs.Io.Buffered.{reader_buffer, reader_remaining};
+    ghost use Rattle.satl_io.specs.Streams.{StreamIn};
 
-    ghost Value = { Stream };
+    ghost Value = { StreamIn };
 
-    ghost view = { λ s. record { bytes = R.remaining s.inner; faults = s.faults } };
+    ghost view = { λ s. record {
+      bytes = reader_remaining R.remaining s.inner;
+      ahead = reader_buffer s.inner;
+      faults = s.faults;
+    } };
 }
 
 impl<R: Read + Drop> StdSource<R> {
+    ghost use Rattle.std.specs.Io.Buffered.{reader_buffer, reader_remaining};
+
     /// Reads from `input`, with no fault so far (profile).
-    pub fn new(input: R) -> Self
-        ensures { result ≡ record { bytes = R.remaining input; faults = 0 } }
+    pub fn new(input: BufReader<R>) -> Self
+        ensures { result ≡ record {
+          bytes = reader_remaining R.remaining input;
+          ahead = reader_buffer input;
+          faults = 0;
+        } }
     {
         StdSource {
             inner: input,
@@ -38,6 +49,8 @@ impl<R: Read + Drop> StdSource<R> {
 
 impl<R: Read + Drop> Source for StdSource<R> {
     ghost left = { λ s. s.bytes };
+
+    ghost ahead = { λ s. s.ahead };
 
     ghost faults = { λ s. s.faults };
 
@@ -56,6 +69,24 @@ impl<R: Read + Drop> Source for StdSource<R> {
             }
         }
     }
+
+    fn read_ahead(&mut self) -> Result<(), Failed> {
+        match self.inner.fill_buf() {
+            Ok(_) => Ok(()),
+            Err(_) => {
+                self.faults = self.faults.saturating_add(1);
+                Err(Failed)
+            }
+        }
+    }
+
+    fn ahead(&self) -> &[u8] {
+        self.inner.buffer()
+    }
+
+    fn consume(&mut self, count: usize) {
+        self.inner.consume(count);
+    }
 }
 
 /// A sink over a writer of std. Each error of the writer is a fault, and so is a write that takes no
@@ -67,9 +98,9 @@ pub struct StdSink<W: Write + Drop> {
 }
 
 impl<W: Write + Drop> Model for StdSink<W> {
-    ghost use Rattle.satl_io.specs.Streams.{Stream};
+    ghost use Rattle.satl_io.specs.Streams.{StreamOut};
 
-    ghost Value = { Stream };
+    ghost Value = { StreamOut };
 
     ghost view = { λ s. record { bytes = W.contents s.inner; faults = s.faults } };
 }

@@ -1,4 +1,5 @@
 use crate::{Failed, MemorySink, MemorySource, NeverFails, Sink, Source, StdSink, StdSource};
+use std::io::BufReader;
 use std::test::Fail;
 
 // Six bytes in pieces of four; the second call fails, and then so do writes without room.
@@ -27,7 +28,7 @@ fn streams_in_memory(rt: HostRuntime) -> Result<(), Fail> {
 // A slice as reader and as writer; a writer that takes no byte has failed.
 #[test]
 fn streams_of_std(rt: HostRuntime) -> Result<(), Fail> {
-    let mut source = StdSource::new(b"framed".as_slice());
+    let mut source = StdSource::new(BufReader::new(rt.alloc(), b"framed".as_slice())?);
     let mut buf = [0; 4];
     assert_eq!(rt; source.read(&mut buf), Ok(4));
     assert_eq!(rt; source.read(&mut buf), Ok(2));
