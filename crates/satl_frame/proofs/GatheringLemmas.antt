@@ -1,7 +1,9 @@
 -- Bytes that are gathered, and then written.
-use Rattle.std.proofs.Common.{◌≡◌, ℕ, List, [], ◌∷◌, ◌++◌, Option, ◌∙◌, ap, sym, append_assoc}
-use Rattle.std.proofs.lemmas.List.{append-nil}
-use Rattle.satl_base.specs.Blocks.{first_bytes}
+use Rattle.std.proofs.Common.{◌≡◌, ℕ, ◌-◌, ◌<◌, ◌≤◌, List, [], ◌∷◌, ◌++◌, Option, length, take, refl, ◌∙◌, ap, sym, arith, append_assoc}
+use Rattle.std.proofs.lemmas.List.{append-nil, take-append-le, take_all}
+use Rattle.satl_base.specs.Blocks.{bytes_of, first_bytes}
+use Rattle.satl_base.specs.declared.block.Block.{Block}
+use Rattle.satl_base.proofs.BlocksLemmas.{block_gives_piece}
 use Rattle.satl_io.specs.Known.{Wrote, WrotePart}
 use Rattle.satl_io.proofs.Joined.{Wrote-more, Wrote-none, WrotePart-more, WrotePart-front}
 use Rattle.byteorder.specs.Endian.{big_bytes}
@@ -42,6 +44,24 @@ gathers_end_part p part = rw (← p.split) (WrotePart-more p.wrote part)
 -- one piece more: what was gathered, and what is left
 pub piece_gathered : {it : List ℕ} (front piece rest all : List ℕ) → it ≡ piece ++ rest → front ++ it ≡ all → (front ++ piece) ++ rest ≡ all
 piece_gathered front piece rest all is whole = append_assoc front piece rest ∙ ap (λ (xs : List ℕ). front ++ xs) (sym is) ∙ whole
+
+-- one block more
+pub block_gathered : (front bytes : List ℕ) (left : ℕ) (b : Block) (bs it : List Block) (all : List ℕ) → bytes ≡ b.bytes → length b.bytes ≡ 512 → 512 ≤ left → it ≡ b ∷ bs →
+    front ++ first_bytes left it ≡ all → (front ++ bytes) ++ first_bytes (left - length bytes) bs ≡ all
+block_gathered front bytes left b bs it all same size more is whole =
+    let count : length bytes ≡ 512 = ap length same ∙ size in
+    let piece = (block_gives_piece left 512 (first_bytes left it) bytes b bs it refl is same size (omega (arith, more)) (omega (arith, more))).0 in
+    let front_is : take 512 bytes ≡ bytes = take_all 512 bytes (omega (arith, count)) in
+    piece_gathered front bytes (first_bytes (left - length bytes) bs) all (piece ∙ ap (λ (xs : List ℕ). xs ++ first_bytes (left - 512) bs) front_is
+    ∙ ap (λ (n : ℕ). bytes ++ first_bytes (left - n) bs) (sym count)) whole
+
+-- the last bytes stand in one block
+pub last_gathered : (front bytes : List ℕ) (left : ℕ) (b : Block) (bs it : List Block) (all : List ℕ) → bytes ≡ b.bytes → left < length bytes → it ≡ b ∷ bs →
+    front ++ first_bytes left it ≡ all → front ++ take left bytes ≡ all
+last_gathered front bytes left b bs it all same fewer is whole =
+    let piece : first_bytes left it ≡ take left bytes = ap (λ (l : List Block). first_bytes left l) is
+    ∙ take-append-le left b.bytes (bytes_of bs) (omega (arith, fewer, ap length same)) ∙ ap (λ (xs : List ℕ). take left xs) (sym same) in
+    ap (λ (xs : List ℕ). front ++ xs) (sym piece) ∙ whole
 
 -- a failure at a piece is one of all
 pub piece_failed : {a b c : Option (List ℕ)} {g g' front : List ℕ} (piece rest all : List ℕ) → Gathers a b g g' front → WrotePart b c (g' ++ piece) → (front ++ piece) ++ rest ≡ all →

@@ -71,8 +71,14 @@ pub fn gather_data<K: Sink>(
         (buffer.old ++ first_bytes len pages.now)) }
     ensures cause { HasCause (K.faults sink.old) (K.faults sink.new) result }
 {
-    for piece in pages.pieces(len) {
-        gather(sink, buffer, piece)?;
+    let mut left = len as usize;
+    for block in pages.iter() {
+        let bytes = block.as_bytes();
+        if left < bytes.len() {
+            return gather(sink, buffer, &bytes[..left]);
+        }
+        gather(sink, buffer, bytes)?;
+        left -= bytes.len();
     }
     Ok(())
 }

@@ -39,3 +39,35 @@ fn streams_of_std(rt: HostRuntime) -> Result<(), Fail> {
     assert_eq!(rt; sink.write(b"me"), Err(Failed));
     Ok(())
 }
+
+/// Takes at most three of the bytes that are read ahead.
+fn consume_three<S: Source>(source: &mut S) {
+    let count = source.ahead().len().min(3);
+    source.consume(count);
+}
+
+// Bytes that are read ahead stay until they are consumed, and a read begins with them.
+#[test]
+fn reads_ahead(rt: HostRuntime) -> Result<(), Fail> {
+    let alloc = rt.alloc();
+    let input = BufReader::with_capacity(alloc, 4, b"framed".as_slice())?;
+    let mut source = StdSource::new(input);
+    assert_eq!(rt; source.ahead(), b"".as_slice());
+    assert_eq!(rt; source.read_ahead(), Ok(()));
+    assert_eq!(rt; source.ahead(), b"fram".as_slice());
+    consume_three(&mut source);
+    assert_eq!(rt; source.read_ahead(), Ok(()));
+    assert_eq!(rt; source.ahead(), b"m".as_slice());
+    let mut buf = [0; 8];
+    assert_eq!(rt; source.read(&mut buf), Ok(1));
+    assert_eq!(rt; source.read_ahead(), Ok(()));
+    assert_eq!(rt; source.ahead(), b"ed".as_slice());
+    let mut second = Vec::new(alloc);
+    second.push(1)?;
+    let mut memory = MemorySource::new(b"framed".to_vec(alloc)?, 4, second);
+    assert_eq!(rt; memory.read_ahead(), Ok(()));
+    consume_three(&mut memory);
+    assert_eq!(rt; memory.read_ahead(), Err(Failed));
+    assert_eq!(rt; memory.ahead(), b"med".as_slice());
+    Ok(())
+}
