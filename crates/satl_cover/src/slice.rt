@@ -54,6 +54,7 @@ impl<'a> Source for Slice<'a> {
         self.rest = &self.rest[count..];
         Ok(count)
     }
+
     fn read_ahead(&mut self) -> Result<(), Failed> {
         Ok(())
     }

@@ -35,7 +35,7 @@ returns-in_err-gather-clause-part g c =
     let bytes = c.as_bytes-bytes.result.now in
     any_err c.from_residual.result _ (piece_failed bytes (first_bytes (c.loop-block.left - length bytes) c.next.new.self) (first_bytes c.args.len c.args.pages.now) before.gathers c.in_err-gather.ensures.part
     (block_gathered before.front bytes c.loop-block.left c.in-Some.block.now c.next.new.self c.loop-block.block-iterator _
-        c.as_bytes-bytes.ensures.value c.as_bytes-bytes.ensures.size more c.in-Some.ensures.steps before.rest))
+    c.as_bytes-bytes.ensures.value c.as_bytes-bytes.ensures.size more c.in-Some.ensures.steps before.rest))
 
 -- the bytes of the last block
 last_bytes : (g : _) (c : goal.After-gather g) → c.loop-block.invariant.front ++ take c.loop-block.left c.as_bytes-bytes.result.now ≡ first_bytes c.args.len c.args.pages.now
@@ -45,12 +45,12 @@ last_bytes g c = last_gathered c.loop-block.invariant.front c.as_bytes-bytes.res
 pub returns-then-left-bytes-clause-all : goal.returns-then-left-bytes-clause-all
 returns-then-left-bytes-clause-all g c =
     on_ok_weaker c.gather.result
-      (λ all. subst (Gathers (g.K.Sink.written c.args.sink.now) (g.K.Sink.written c.gather.new.sink) c.args.buffer.now c.gather.new.buffer) (last_bytes g c) (Gathers-more c.loop-block.invariant.gathers all))
-      c.gather.ensures.all
+    (λ all. subst (Gathers (g.K.Sink.written c.args.sink.now) (g.K.Sink.written c.gather.new.sink) c.args.buffer.now c.gather.new.buffer) (last_bytes g c) (Gathers-more c.loop-block.invariant.gathers all))
+    c.gather.ensures.all
 
 pub returns-then-left-bytes-clause-part : goal.returns-then-left-bytes-clause-part
 returns-then-left-bytes-clause-part g c =
     on_err_weaker c.gather.result
-      (λ part. subst (λ bytes. WrotePart (g.K.Sink.written c.args.sink.now) (g.K.Sink.written c.gather.new.sink) (c.args.buffer.now ++ bytes)) (last_bytes g c)
-        (gathers_part (take c.loop-block.left c.as_bytes-bytes.result.now) c.loop-block.invariant.gathers part))
-      c.gather.ensures.part
+    (λ part. subst (λ bytes. WrotePart (g.K.Sink.written c.args.sink.now) (g.K.Sink.written c.gather.new.sink) (c.args.buffer.now ++ bytes)) (last_bytes g c)
+    (gathers_part (take c.loop-block.left c.as_bytes-bytes.result.now) c.loop-block.invariant.gathers part))
+    c.gather.ensures.part

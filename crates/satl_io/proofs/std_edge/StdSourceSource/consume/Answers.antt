@@ -20,4 +20,4 @@ returns-clause-bytes g c =
     let left = reader_remaining g.R.Read.remaining c.consume.new.self in
     let within = subst (λ s. c.args.count ≤ length s.ahead) (sym c.self.view_is) c.requires in
     subst (λ s. Took s.bytes left (take c.args.count s.ahead)) c.self.view_is
-      (Took-front _ left _ c.args.count within (stands_in_front _ _ _) c.consume.ensures.bytes)
+    (Took-front _ left _ c.args.count within (stands_in_front _ _ _) c.consume.ensures.bytes)
