@@ -1,5 +1,5 @@
 -- What pulling a stated number of bytes from a source leaves (profile).
-use Rattle.std.specs.Prelude.{ℕ, ◌<◌, ◌≤◌, ◌≡◌, true, List, [], ◌++◌, length, take, reverse, IfSome, IsErrOf, Option, Some, None}
+use Rattle.std.specs.Prelude.{ℕ, ◌<◌, ◌≤◌, ◌≡◌, true, List, ◌++◌, length, take, reverse, IfSome, IsErrOf, Option, Some, None}
 use Rattle.std.specs.declared.result.Result.{Result}
 use Rattle.std.specs.declared.result.Result.TheVariants.{Ok, Err}
 use Rattle.satl_io.specs.Causes.{Rose}
@@ -99,11 +99,6 @@ pub record TookPayload (left left' : Option (List ℕ)) (head : Head) (room : �
   pub took : Took left left' (payload_bytes whole)
   pub kind_is : kind whole ≡ head.code
   pub length_is : length (payload_bytes whole) ≡ head.len
-
--- a request without data-out
-pub record IsBare (r : Request) : Type 0 where
-  pub body : r.body ≡ []
-  pub data_len : r.data_len ≡ 0
 
 -- the data-out of a request was taken, and this is the request with the pages that were free
 pub record TookRest (left left' : Option (List ℕ)) (request : Request) (len room : ℕ) (filled : Request) : Type 0 where

@@ -3,7 +3,7 @@ ghost use Rattle.std.specs.Prelude.{◌≡◌, ◌<◌, ◌++◌, true, ℕ, Lis
 ghost use Rattle.byteorder.specs.Endian.{big_bytes};
 ghost use Rattle.satl_frame.specs.Faults.{has_bad_event, has_bad_field};
 ghost use Rattle.satl_frame.specs.Frames.{attr_code, expected_in, is_expectable, which_code, head_size, request_fields, manage_fields, frame_rows, has_code, allows, HasFields, IsManage};
-ghost use Rattle.satl_frame.specs.Pulls.{IsBare, SpellsFrame, SpellsEvent};
+ghost use Rattle.satl_frame.specs.Pulls.{SpellsFrame, SpellsEvent};
 
 use crate::frames::{
     BENCH_KIND, Frame, GLITCH_EVENT, LONGEST_EVENT, MANAGE_KIND, MEND_EVENT, ORDER_EVENT,
@@ -49,7 +49,6 @@ fn is_expectable(expected: Option<u32>) -> bool
 pub fn request_of(version: Version, head: &[u8]) -> Option<Request>
     requires { length head.now ≡ head_size version }
     ensures found { IfSome result (λ r. (request_fields r ≡ head.now) × HasFields version r) }
-    ensures bare { IfSome result IsBare }
     ensures none { IfNone result ((rest : List ℕ) → has_bad_field version 1 (head.now ++ rest) ≡ true) }
 {
     let nexus = Nexus::new(head[0])?;

@@ -4,7 +4,7 @@ ghost use Rattle.satl_base.specs.Stocks.{HasLent};
 ghost use Rattle.satl_frame.specs.declared.frames.Frame.TheVariants as frames;
 ghost use Rattle.satl_frame.specs.Faults.{told_length};
 ghost use Rattle.satl_frame.specs.Frames.{frame_rows, has_code, allows};
-ghost use Rattle.satl_frame.specs.Pulls.{IsBare, PullCauses, Stopped, TookPayload, TookRest, TookBadField, asked_pages, found_pages, frame_pages, given_pages, head_of_request, request_pages};
+ghost use Rattle.satl_frame.specs.Pulls.{PullCauses, Stopped, TookPayload, TookRest, TookBadField, asked_pages, found_pages, frame_pages, given_pages, head_of_request, request_pages};
 ghost use Rattle.satl_frame.specs.Reading.{Reading, Gave, Blames, ReadCauses};
 ghost use Rattle.satl_frame.specs.Steps.{Began, BlamesMagic, StoodAt, BlamesAt, BlamesPayload, head_in};
 
@@ -21,7 +21,7 @@ use satl_io::{Failed, Source};
 use std::alloc::Global;
 use std::marker::Model;
 
-/// Pulls the data-out of a request, which has none yet.
+/// Pulls the data-out of a request.
 fn pull_rest<S: Source, P: Lender>(
     source: &mut S,
     buffer: &mut [u8; CHUNK],
@@ -29,15 +29,11 @@ fn pull_rest<S: Source, P: Lender>(
     request: Request,
     len: u32,
 ) -> Result<Request, PullError>
-    requires { IsBare request }
     ensures filled { IfOk result (TookRest (S.left source.old) (S.left source.new) request len (P.stock lender.old).free) }
     ensures stopped { Stopped (S.left source.old) (S.left source.new) len result }
     ensures causes { PullCauses (S.left source.old) (S.left source.new) len (S.faults source.old) (S.faults source.new) result }
     ensures lent { HasLent (given_pages request_pages result) (P.stock lender.old) (P.stock lender.new) }
 {
-    if len == 0 {
-        return Ok(request);
-    }
     match pull_by(source, buffer, lender, len) {
         Ok(body) => Ok(Request {
             body,
