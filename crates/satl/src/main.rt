@@ -12,7 +12,7 @@ ghost use Rattle.satl_barrier.specs.Leaving.{IsFree};
 
 use satl_base::NoMemory;
 use satl_disk::ModelDrive;
-use satl_io::{StdSink, StdSource};
+use satl_io::{BufferedSource, StdSink};
 use satl_top::{Status, counted_program};
 use std::alloc::Global;
 use std::env;
@@ -66,7 +66,7 @@ fn run(rt: &HostRuntime) -> Result<Status, NoMemory> {
     let Ok(input) = BufReader::with_capacity(alloc, INPUT_BUFFER, rt.stdin()) else {
         return Err(NoMemory);
     };
-    let mut source = StdSource::new(input);
+    let mut source = BufferedSource::new(input);
     let mut sink = StdSink::new(rt.stdout());
     let mut drives = modelled(alloc)?;
     Ok(counted_program::<_, _, _, Brand>(

@@ -6,11 +6,11 @@ ghost use Rattle.satl_frame.specs.DataPages.{page_count};
 ghost use Rattle.satl_frame.specs.Pulls.{PullCauses, Stopped, TookCount, TookPages, FilledInReverse, given_pages};
 
 use crate::pulling::{PullError, pull};
-use satl_base::{Lender, Pages};
+use satl_base::{BLOCK_BYTES, Lender, Pages};
 use satl_io::{Failed, Source};
 
-/// The bytes of a page: so many go by a buffer where the source has read fewer ahead.
-pub const CHUNK: usize = 512;
+/// So many bytes go by a buffer, where the source has read fewer ahead: those of a page.
+pub const CHUNK: usize = BLOCK_BYTES as usize;
 
 /// Blanks what stands behind so many bytes, up to the end of their last page.
 fn blank_rest(buffer: &mut [u8; CHUNK], count: usize)
@@ -93,7 +93,7 @@ fn fill_pages<S: Source>(
         if pages > 0 {
             at += 512 * pages;
         } else {
-            let count = (len - at).min(CHUNK as u32);
+            let count = (len - at).min(BLOCK_BYTES);
             pull_chunk(source, buffer, count as usize, todo, done)?;
             at += count;
         }

@@ -81,6 +81,7 @@ impl Source for GenSource {
             Err(_) => unreachable!(),
         }
     }
+
     // What is made ahead is not shown: a reader asks for it by `read`.
     fn read_ahead(&mut self) -> Result<(), Failed> {
         Ok(())

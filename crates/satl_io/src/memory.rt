@@ -5,7 +5,7 @@ ghost use Rattle.std.specs.Io.KnownBytes.{Keeps, ReadConsumes, WriteAppends};
 ghost use Rattle.satl_io.specs.Causes.{HasCause, next_count};
 
 use crate::sink::Sink;
-use crate::source::{Failed, Source};
+use crate::source::{Failed, Source, count_fault};
 use satl_base::NoMemory;
 use std::alloc::Global;
 use std::marker::Model;
@@ -85,8 +85,7 @@ impl MemorySource {
         let call = self.calls;
         self.calls = call.saturating_add(1);
         if is_failing(&self.failing, call) {
-            self.faults = self.faults.saturating_add(1);
-            return Err(Failed);
+            return Err(count_fault(&mut self.faults));
         }
         Ok(())
     }
@@ -285,8 +284,7 @@ impl Sink for MemorySink {
         let call = self.calls;
         self.calls = call.saturating_add(1);
         if self.room == 0 || is_failing(&self.failing, call) {
-            self.faults = self.faults.saturating_add(1);
-            return Err(Failed);
+            return Err(count_fault(&mut self.faults));
         }
         let count = piece.len().min(self.room).min(self.piece);
         match self.bytes.extend_from_slice(&piece[..count]) {

@@ -3,12 +3,21 @@ ghost use Rattle.std.specs.Prelude.{◌≡◌, ◌<◌, ◌≤◌, List, ℕ, le
 ghost use Rattle.std.specs.declared.option.Option.{Option};
 ghost use Rattle.std.specs.Io.{ReadsAtMost, StartsWith};
 ghost use Rattle.std.specs.Io.KnownBytes.{Keeps, ReadConsumes};
-ghost use Rattle.satl_io.specs.Causes.{HasCause};
+ghost use Rattle.satl_io.specs.Causes.{HasCause, next_count};
 ghost use Rattle.satl_io.specs.Known.{Took};
 
 /// A read or a write failed: it took or wrote nothing, and the count of faults rose (profile).
 #[derive(Clone, Copy, Debug, PartialEq, Eq)]
 pub struct Failed;
+
+/// Counts a fault.
+pub fn count_fault(faults: &mut u64) -> Failed
+    ensures counted { faults.new ≡ next_count faults.old }
+    ensures later { faults.old ≤ faults.new }
+{
+    *faults = faults.saturating_add(1);
+    Failed
+}
 
 /// Bytes that come in pieces (profile).
 pub trait Source {
@@ -29,7 +38,7 @@ pub trait Source {
         ensures bytes { ReadConsumes (left self.old) (left self.new) result buf.new }
         ensures cause { HasCause (faults self.old) (faults self.new) result };
 
-    /// Reads ahead where nothing is read ahead yet. No byte is taken. `Failed` comes as from `read`.
+    /// May read ahead, that more be shown: no clause says how much. `Ok` and `Failed` take no byte.
     fn read_ahead(&mut self) -> Result<(), Failed>
         ensures bytes { Keeps (left self.old) (left self.new) }
         ensures cause { HasCause (faults self.old) (faults self.new) result };

@@ -1,44 +1,33 @@
 // The edge: std's readers and writers. Those of a process tell no bytes, so no clause knows these.
-ghost use Rattle.std.specs.Prelude.{◌≡◌, ◌<◌, IfOk, MatchResult};
+ghost use Rattle.std.specs.Prelude.{◌≡◌, ◌<◌, [], IfOk, MatchResult};
 ghost use Rattle.std.specs.Io.{ReadsAtMost, WritesAtMost};
 ghost use Rattle.std.specs.Io.KnownBytes.{ReadConsumes, WriteAppends};
 ghost use Rattle.satl_io.specs.Causes.{HasCause, next_count};
 
 use crate::sink::Sink;
-use crate::source::{Failed, Source};
-use std::io::{BufRead, BufReader, Read, Write};
+use crate::source::{Failed, Source, count_fault};
+use std::io::{Read, Write};
 use std::marker::Model;
 
-/// A source over a buffered reader of std. Each error of the reader is a fault (profile).
+/// A source over a reader of std, which reads nothing ahead. Each error of the reader is a fault (profile).
 #[derive(Drop)]
 pub struct StdSource<R: Read + Drop> {
-    inner: BufReader<R>,
+    inner: R,
     faults: u64,
 }
 
 impl<R: Read + Drop> Model for StdSource<R> {
-    ghost use Rattle.std.specs.Io.Buffered.{reader_buffer, reader_remaining};
-    ghost use Rattle.satl_io.specs.Streams.{StreamIn};
+    ghost use Rattle.satl_io.specs.Streams.{Stream};
 
-    ghost Value = { StreamIn };
+    ghost Value = { Stream };
 
-    ghost view = { λ s. record {
-      bytes = reader_remaining R.remaining s.inner;
-      ahead = reader_buffer s.inner;
-      faults = s.faults;
-    } };
+    ghost view = { λ s. record { bytes = R.remaining s.inner; faults = s.faults } };
 }
 
 impl<R: Read + Drop> StdSource<R> {
-    ghost use Rattle.std.specs.Io.Buffered.{reader_buffer, reader_remaining};
-
     /// Reads from `input`, with no fault so far (profile).
-    pub fn new(input: BufReader<R>) -> Self
-        ensures { result ≡ record {
-          bytes = reader_remaining R.remaining input;
-          ahead = reader_buffer input;
-          faults = 0;
-        } }
+    pub fn new(input: R) -> Self
+        ensures { result ≡ record { bytes = R.remaining input; faults = 0 } }
     {
         StdSource {
             inner: input,
@@ -50,7 +39,7 @@ impl<R: Read + Drop> StdSource<R> {
 impl<R: Read + Drop> Source for StdSource<R> {
     ghost left = { λ s. s.bytes };
 
-    ghost ahead = { λ s. s.ahead };
+    ghost ahead = { λ _. [] };
 
     ghost faults = { λ s. s.faults };
 
@@ -63,30 +52,19 @@ impl<R: Read + Drop> Source for StdSource<R> {
     {
         match self.inner.read(buf) {
             Ok(count) => Ok(count),
-            Err(_) => {
-                self.faults = self.faults.saturating_add(1);
-                Err(Failed)
-            }
+            Err(_) => Err(count_fault(&mut self.faults)),
         }
     }
 
     fn read_ahead(&mut self) -> Result<(), Failed> {
-        match self.inner.fill_buf() {
-            Ok(_) => Ok(()),
-            Err(_) => {
-                self.faults = self.faults.saturating_add(1);
-                Err(Failed)
-            }
-        }
+        Ok(())
     }
 
     fn ahead(&self) -> &[u8] {
-        self.inner.buffer()
+        &[]
     }
 
-    fn consume(&mut self, count: usize) {
-        self.inner.consume(count);
-    }
+    fn consume(&mut self, _count: usize) {}
 }
 
 /// A sink over a writer of std. Each error of the writer is a fault, and so is a write that takes no
@@ -98,9 +76,9 @@ pub struct StdSink<W: Write + Drop> {
 }
 
 impl<W: Write + Drop> Model for StdSink<W> {
-    ghost use Rattle.satl_io.specs.Streams.{StreamOut};
+    ghost use Rattle.satl_io.specs.Streams.{Stream};
 
-    ghost Value = { StreamOut };
+    ghost Value = { Stream };
 
     ghost view = { λ s. record { bytes = W.contents s.inner; faults = s.faults } };
 }
@@ -131,10 +109,7 @@ impl<W: Write + Drop> Sink for StdSink<W> {
             (λ _. self.new.faults ≡ next_count self.old.faults) }
     {
         match self.inner.write(piece) {
-            Ok(0) | Err(_) => {
-                self.faults = self.faults.saturating_add(1);
-                Err(Failed)
-            }
+            Ok(0) | Err(_) => Err(count_fault(&mut self.faults)),
             Ok(count) => Ok(count),
         }
     }

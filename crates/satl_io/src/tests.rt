@@ -1,4 +1,6 @@
-use crate::{Failed, MemorySink, MemorySource, NeverFails, Sink, Source, StdSink, StdSource};
+use crate::{
+    BufferedSource, Failed, MemorySink, MemorySource, NeverFails, Sink, Source, StdSink, StdSource,
+};
 use std::io::BufReader;
 use std::test::Fail;
 
@@ -28,7 +30,7 @@ fn streams_in_memory(rt: HostRuntime) -> Result<(), Fail> {
 // A slice as reader and as writer; a writer that takes no byte has failed.
 #[test]
 fn streams_of_std(rt: HostRuntime) -> Result<(), Fail> {
-    let mut source = StdSource::new(BufReader::new(rt.alloc(), b"framed".as_slice())?);
+    let mut source = StdSource::new(b"framed".as_slice());
     let mut buf = [0; 4];
     assert_eq!(rt; source.read(&mut buf), Ok(4));
     assert_eq!(rt; source.read(&mut buf), Ok(2));
@@ -51,7 +53,7 @@ fn consume_three<S: Source>(source: &mut S) {
 fn reads_ahead(rt: HostRuntime) -> Result<(), Fail> {
     let alloc = rt.alloc();
     let input = BufReader::with_capacity(alloc, 4, b"framed".as_slice())?;
-    let mut source = StdSource::new(input);
+    let mut source = BufferedSource::new(input);
     assert_eq!(rt; source.ahead(), b"".as_slice());
     assert_eq!(rt; source.read_ahead(), Ok(()));
     assert_eq!(rt; source.ahead(), b"fram".as_slice());

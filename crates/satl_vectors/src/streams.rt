@@ -7,7 +7,8 @@ use std::process::Abort;
 use std::test::Fail;
 
 /// The magic or a frame of the input of a write and a read: where it begins and ends, which calls read it where each gives one
-/// byte, and how many bytes are written before it is carried out. Before each of its fields a call reads ahead.
+/// byte, and how many bytes are written before it is carried out. Before each of its fields a call reads ahead, and before
+/// data-out another one.
 #[derive(Clone, Copy)]
 struct Part {
     begin: usize,

@@ -6,7 +6,7 @@ use Rattle.std.specs.Io.KnownBytes.{prepend_known}
 use Rattle.std.proofs.Transfers.{starts_with_of_append}
 use Rattle.satl_io.specs.Known.{Took}
 use Rattle.satl_io.proofs.Joined.{Took-front}
-use Rattle.satl_io.proofs.std_edge.StdSourceSource.consume.Goals as goal
+use Rattle.satl_io.proofs.buffered_edge.BufferedSourceSource.consume.Goals as goal
 
 -- what was read ahead stands in front of what is left
 stands_in_front : (is_unknown : Bool) (front : List ℕ) (rest : Option (List ℕ))
