@@ -5,7 +5,7 @@ ghost use Rattle.satl_direct.specs.Arrival.{is_unit_0, codes_before_attentions};
 ghost use Rattle.satl_direct.specs.Tasks.{is_ordered};
 ghost use Rattle.satl_asks.specs.Requests.{is_for_unit};
 
-use satl_base::{Attr, Request, are_zeros};
+use satl_base::{Attr, Request};
 use satl_cdb::{INQUIRY, REPORT_LUNS, REQUEST_SENSE};
 
 /// Whether a command of this operation code is carried out before a unit attention is told: INQUIRY, REPORT LUNS and REQUEST
@@ -20,7 +20,7 @@ pub fn goes_before_attentions(code: u8) -> bool
 pub fn is_unit_0(lun: &[u8; 8]) -> bool
     ensures { result ≡ is_unit_0 lun.now }
 {
-    are_zeros(lun)
+    u64::from_ne_bytes(*lun) == 0
 }
 
 /// Whether a request goes to logical unit 0. REPORT LUNS does at each LUN (SPC-4 6.33).

@@ -39,6 +39,8 @@ fn fill_by_reads<S: Source>(source: &mut S, buf: &mut [u8]) -> Result<usize, Fai
 
 /// Fills the buffer, or as much of its front as the source has bytes for, and gives their number (profile). `Failed` comes only
 /// where the source's count of faults rose; then fewer bytes were taken than the buffer has.
+// Inlined, as it copies few bytes: mostly a head, of which the length is known then.
+#[inline(always)]
 pub fn fill<S: Source>(source: &mut S, buf: &mut [u8]) -> Result<usize, Failed>
     ensures bound { ReadsAtMost result buf.new }
     ensures bytes { IfOk result (λ n. Took (S.left source.old) (S.left source.new) (take n buf.new)) }

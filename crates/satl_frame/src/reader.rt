@@ -228,6 +228,7 @@ fn read_magic<S: Source>(source: &mut S, newest: Version) -> Result<Place, Frame
 }
 
 /// Reads the magic unless that was done, and gives the place of the next frame.
+#[inline(always)]
 fn begin<S: Source>(
     source: &mut S,
     newest: Version,

@@ -136,6 +136,7 @@ fn second_head(reply: &Reply, expected: u32) -> [u8; 16]
 }
 
 /// A reply up to its sense.
+#[inline(always)]
 fn extend_by_fields(reply: &Reply, front: &mut Front)
     requires writable { IsWritable reply.now }
     requires empty { front.old.items ≡ [] }
@@ -170,6 +171,7 @@ fn write_with_data<K: Sink>(
 /// Appends exactly the bytes of a reply's frame, as `write_frame` does, for who writes many and keeps a buffer for them: no
 /// memory is cleared for a reply then. What the buffer holds before does not matter, and nothing is told of what it holds
 /// afterwards (profile).
+#[inline(always)]
 pub fn write_reply<K: Sink>(
     reply: &Reply,
     buffer: &mut WriteBuffer,
