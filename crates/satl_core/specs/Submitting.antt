@@ -51,6 +51,11 @@ reply_at_once i m r at_once.Good = reply_to r statuses.Good []
 reply_at_once i m r (at_once.Tell what alloc) = good_with_data r alloc (data_text i m what)
 reply_at_once i m r (at_once.Check sense) = reply_to r statuses.CheckCondition (sense_text m sense)
 
+-- a command may become a task, unless it is answered at once with this (profile)
+abbrev pub unless_answered : Option AtOnce → Command → Result Command AtOnce
+unless_answered None command = Ok command
+unless_answered (Some answer) command = Err answer
+
 -- TEST UNIT READY, and commands that go over no block (profile)
 abbrev pub readiness : Layer → AtOnce
 readiness l =

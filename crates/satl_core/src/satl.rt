@@ -207,7 +207,7 @@ impl Satl {
         }
         match self.judge(&request) {
             Ok(command) => {
-                self.add_task(request, command, replies);
+                self.add_task(request, &command, replies);
                 if replies.len() == 0 {
                     self.send_last(drive, replies, steps);
                 }
@@ -299,20 +299,20 @@ impl Satl {
     }
 
     /// A command becomes a task, or the task set is full.
-    fn add_task(&mut self, request: Request, command: Command, replies: &mut Replies)
+    fn add_task(&mut self, request: Request, command: &Command, replies: &mut Replies)
         requires can { CanSubmit request self.old.free self.old.out }
         requires few { length self.old.tasks ≤ most_tasks }
-        requires judged { judged self.old request ≡ Ok command }
+        requires judged { judged self.old request ≡ Ok command.now }
         requires holds { HoldsList request }
-        requires list { HasList command request.body self.old.identity.capacity }
-        requires trims { trims command ≡ true → self.old.identity.trim ≡ true }
-        requires change { IfSome ((asks command).change request.body) (IsChangeOf self.old.identity) }
-        requires task { IsTask self.old.identity.capacity command (held_blocks command) }
+        requires list { HasList command.now request.body self.old.identity.capacity }
+        requires trims { trims command.now ≡ true → self.old.identity.trim ≡ true }
+        requires change { IfSome ((asks command.now).change request.body) (IsChangeOf self.old.identity) }
+        requires task { IsTask self.old.identity.capacity command.now (held_blocks command.now) }
         requires empty { replies.old ≡ [] }
-        ensures becomes { Becomes request command self.old replies.new self.new }
+        ensures becomes { Becomes request command.now self.old replies.new self.new }
         ensures comes { replies.new ≡ [] → Comes self.old.identity.capacity self.old.identity.queued_trim self.old.tasks
             self.new.tasks }
-        ensures long { replies.new ≡ [] → needed command ≤ 512 * length request.body }
+        ensures long { replies.new ≡ [] → needed command.now ≤ 512 * length request.body }
     {
         put_task(&request, command, &self.identity, self.desk.entry_mut());
         if self.queue.add(&mut self.desk).is_err() {
@@ -320,7 +320,7 @@ impl Satl {
             self.pool.give(request.body);
             return;
         }
-        let body = own_pages(&mut self.pool, &command, &self.identity, request.body);
+        let body = own_pages(&mut self.pool, command, &self.identity, request.body);
         self.queue.fill_last(body);
     }
 

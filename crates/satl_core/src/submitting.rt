@@ -11,7 +11,7 @@ ghost use Rattle.satl_direct.specs.Tasks.{asks, data_out_kept, fault_of_block, h
 ghost use Rattle.satl_core.specs.Layer.{entry_pages, reply_pages};
 ghost use Rattle.satl_base.specs.Limits.{IsExpectable};
 ghost use Rattle.satl_asks.specs.Commands.{CanPass, HasList, IsList};
-ghost use Rattle.satl_core.specs.Submitting.{HasEntries, HasLengths, HasListUnlessEmpty, HoldsList, answer_to, attention_of, code_answer, command_answer, data_answer, is_idle, other_answer, readiness, reply_at_once, sense_data, tell_attention, trims, unless_idle, unmap_list_fault};
+ghost use Rattle.satl_core.specs.Submitting.{HasEntries, HasLengths, HasListUnlessEmpty, HoldsList, answer_to, attention_of, code_answer, command_answer, data_answer, is_idle, other_answer, readiness, reply_at_once, sense_data, tell_attention, trims, unless_answered, unless_idle, unmap_list_fault};
 ghost use Rattle.satl_direct.specs.Device.{attentions_left};
 
 use crate::satl::Satl;
@@ -117,41 +117,45 @@ pub fn judge_code(satl: &Satl, request: &Request) -> Result<Command, AtOnce>
     ensures answer { result ≡ code_answer satl.now request.now }
     ensures can { IfOk result CanPass }
 {
-    match read_cdb(&request.cdb, satl.identity.trim) {
-        Ok(command) => judge_command(satl, request, &command),
-        Err(why) => Err(AtOnce::Check(refusal_sense(why))),
+    let command = match read_cdb(&request.cdb, satl.identity.trim) {
+        Ok(command) => command,
+        Err(why) => return Err(AtOnce::Check(refusal_sense(why))),
+    };
+    match judge_command(satl, request, &command) {
+        None => Ok(command),
+        Some(answer) => Err(answer),
     }
 }
 
 /// Judges a command by its fields, its range and its data-out.
-fn judge_command(satl: &Satl, request: &Request, command: &Command) -> Result<Command, AtOnce>
+fn judge_command(satl: &Satl, request: &Request, command: &Command) -> Option<AtOnce>
     requires holds { HoldsList request.now }
-    ensures answer { result ≡ command_answer satl.now request.now command.now }
-    ensures can { IfOk result CanPass }
+    ensures answer { unless_answered result command.now ≡ command_answer satl.now request.now command.now }
+    ensures can { IfNone result (CanPass command.now) }
 {
     if let Some(why) = fields_fault(command) {
-        return Err(AtOnce::Check(refusal_sense(why)));
+        return Some(AtOnce::Check(refusal_sense(why)));
     }
     let range = range_of(command);
     if range.goes_past(satl.identity.capacity) {
-        return Err(AtOnce::Check(out_of_range()));
+        return Some(AtOnce::Check(out_of_range()));
     }
     judge_data(satl, request, command)
 }
 
 /// Judges the data-out of a command: the length of its list, fewer bytes than it needs, and what is in them.
-fn judge_data(satl: &Satl, request: &Request, command: &Command) -> Result<Command, AtOnce>
+fn judge_data(satl: &Satl, request: &Request, command: &Command) -> Option<AtOnce>
     requires holds { HoldsList request.now }
-    ensures { result ≡ data_answer satl.now request.now command.now }
+    ensures { unless_answered result command.now ≡ data_answer satl.now request.now command.now }
 {
     if let Some(why) = length_fault(command) {
-        return Err(AtOnce::Check(refusal_sense(why)));
+        return Some(AtOnce::Check(refusal_sense(why)));
     }
     if u64::from(request.data_len) < needed(command) {
-        return Err(AtOnce::Check(short_data()));
+        return Some(AtOnce::Check(short_data()));
     }
     match data_fault(satl, request, command) {
-        Some(why) => Err(AtOnce::Check(refusal_sense(why))),
+        Some(why) => Some(AtOnce::Check(refusal_sense(why))),
         None => answer_to(satl, request, command),
     }
 }
@@ -212,12 +216,12 @@ fn list_fault(satl: &Satl, request: &Request, length: u16, ten: bool) -> Option<
 
 /// Answers a command from what the device says of itself, or lets it become a task, unless it has nothing to do: then it
 /// answers as TEST UNIT READY does (profile).
-fn answer_to(satl: &Satl, request: &Request, command: &Command) -> Result<Command, AtOnce>
+fn answer_to(satl: &Satl, request: &Request, command: &Command) -> Option<AtOnce>
     requires list { HasListUnlessEmpty command.now request.now.body satl.now.identity.capacity }
-    ensures { result ≡ answer_to satl.now request.now.body command.now }
+    ensures { unless_answered result command.now ≡ answer_to satl.now request.now.body command.now }
 {
     let (what, alloc) = match *command {
-        Command::TestUnitReady => return Err(readiness(satl)),
+        Command::TestUnitReady => return Some(readiness(satl)),
         Command::Inquiry { page, alloc } => (Data::Inquiry(page), u32::from(alloc)),
         Command::ModeSense {
             ten,
@@ -245,18 +249,18 @@ fn answer_to(satl: &Satl, request: &Request, command: &Command) -> Result<Comman
         Command::ReportLuns { select, alloc } => (Data::Luns(select), alloc),
         _ => return unless_idle(satl, request, command),
     };
-    Err(AtOnce::Tell { what, alloc })
+    Some(AtOnce::Tell { what, alloc })
 }
 
 /// A command that may become a task does, unless it has nothing to do.
-fn unless_idle(satl: &Satl, request: &Request, command: &Command) -> Result<Command, AtOnce>
+fn unless_idle(satl: &Satl, request: &Request, command: &Command) -> Option<AtOnce>
     requires list { HasListUnlessEmpty command.now request.now.body satl.now.identity.capacity }
-    ensures { result ≡ unless_idle satl.now request.now.body command.now }
+    ensures { unless_answered result command.now ≡ unless_idle satl.now request.now.body command.now }
 {
     if is_idle(command, &request.body, satl.identity.capacity) {
-        Err(readiness(satl))
+        Some(readiness(satl))
     } else {
-        Ok(*command)
+        None
     }
 }
 
@@ -296,20 +300,20 @@ fn readiness(satl: &Satl) -> AtOnce
 }
 
 /// Writes the task that a request becomes, still without its pages, over another one.
-pub fn put_task(request: &Request, command: Command, identity: &Identity, task: &mut Entry)
-    requires list { HasList command request.now.body identity.now.capacity }
-    requires holds { needed command ≤ 512 * length request.now.body ⊎ needed command ≤ 512 * held_blocks command }
-    ensures { task.new ≡ task_without_pages identity.now.queued_trim request.now command }
+pub fn put_task(request: &Request, command: &Command, identity: &Identity, task: &mut Entry)
+    requires list { HasList command.now request.now.body identity.now.capacity }
+    requires holds { needed command.now ≤ 512 * length request.now.body ⊎ needed command.now ≤ 512 * held_blocks command.now }
+    ensures { task.new ≡ task_without_pages identity.now.queued_trim request.now command.now }
 {
     task.nexus = request.nexus;
     task.tag = request.tag;
-    task.kind = Kind::of(&command, identity.queued_trim);
+    task.kind = Kind::of(command, identity.queued_trim);
     task.ordered = is_ordered(request.attr);
-    task.blocks = held_blocks(&command);
-    task.command = command;
+    task.blocks = held_blocks(command);
+    task.command = *command;
     task.body = Pages::default();
-    put_ranges(&command, &request.body, identity.capacity, &mut task.ranges);
-    task.change = change_of(&command, &request.body);
+    put_ranges(command, &request.body, identity.capacity, &mut task.ranges);
+    task.change = change_of(command, &request.body);
     task.expected = request.expected;
 }
 

@@ -16,9 +16,8 @@ ghost use Rattle.satl_core.specs.Turning.{CarriedOut, IsLostInTask, TaskEnds, ba
 use crate::alone::Alone;
 use crate::medium::{compare_range, trim_ranges, verify_range, write_range};
 use crate::passing::run_through;
-use arrayvec::ArrayVec;
 use satl_barrier::{flush, switch, tune};
-use satl_base::{Modes, Pages, Replies, Reply, Scsi, Steps};
+use satl_base::{Modes, Pages, Replies, Reply, Scsi, SenseBytes, Steps};
 use satl_cdb::Command;
 use satl_drive::{Drive, LinkDown};
 use satl_errlog::NcqError;
@@ -205,6 +204,7 @@ pub fn is_read(command: &Command) -> bool
 
 /// Answers a task. A READ that is done gives its pages as data-in, and so does an ATA PASS-THROUGH whose data came from the
 /// drive; all other pages are given back. The task has none then.
+#[inline(always)]
 pub fn end_task(pool: &mut Pool, task: &mut Entry, ending: Ending, descriptor: bool) -> Reply
     requires held { length task.old.body ≤ pool.old.out }
     requires few { length task.old.body ≤ most_moved }
@@ -213,22 +213,24 @@ pub fn end_task(pool: &mut Pool, task: &mut Entry, ending: Ending, descriptor: b
     ensures free { pool.new.free + length result.body ≡ pool.old.free + length task.old.body }
     ensures out { pool.new.out + length task.old.body ≡ pool.old.out + length result.body }
 {
-    let (status, sense) = match ending {
-        Ending::Good => (Scsi::Good, ArrayVec::new()),
-        Ending::Informed(sense) | Ending::Check(sense) => {
-            (Scsi::CheckCondition, sense_bytes(&sense, descriptor))
-        }
-    };
     let body = data_in(pool, &task.command, ending, mem::take(&mut task.body));
-    Reply {
+    let mut reply = Reply {
         nexus: task.nexus,
         tag: task.tag,
-        status,
-        sense,
+        status: Scsi::Good,
+        sense: SenseBytes::new(),
         data_len: 512 * body.blocks(),
         body,
         expected: task.expected,
+    };
+    match ending {
+        Ending::Good => {}
+        Ending::Informed(sense) | Ending::Check(sense) => {
+            reply.status = Scsi::CheckCondition;
+            reply.sense = sense_bytes(&sense, descriptor);
+        }
     }
+    reply
 }
 
 fn data_in(pool: &mut Pool, command: &Command, ending: Ending, body: Pages) -> Pages
