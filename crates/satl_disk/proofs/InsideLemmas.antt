@@ -1,22 +1,25 @@
 -- What the sectors are by the three lists that they are kept in.
-use Rattle.std.proofs.Common.{◌≡◌, refl, sym, ◌∙◌, ap, subst, ℕ, ◌<◌, Bool, false, List, arith, length, map, Option, Some, None}
+use Rattle.std.proofs.Common.{◌≡◌, refl, sym, ◌∙◌, ap, subst, inl, inr, ℕ, ◌<◌, Bool, false, List, arith, length, map, Option, Some, None}
 use Rattle.std.specs.Prelude.{drop, slice_index_or, slice_set}
+use Rattle.std.specs.List.{All}
+use Rattle.std.proofs.lemmas.Bool.{cases_lt}
 use Rattle.std.proofs.lemmas.List.{get_or_default, set-get_or}
 use Rattle.satl_base.specs.declared.block.Block.{Block}
 use Rattle.satl_base.specs.declared.bench.Which.{Which}
 use Rattle.satl_base.specs.Blocks.{zero_block}
-use Rattle.satl_base.specs.Cells.{has_flaw}
+use Rattle.satl_base.specs.Cells.{has_flaw, first_flaw}
 use Rattle.satl_base.specs.Lists.{change_at}
 use Rattle.satl_disk.specs.declared.sectors.Flaws.{Flaws}
 use Rattle.satl_disk.specs.Disk.{blank_sector}
 use Rattle.satl_disk.specs.Layout.{block_at, is_flawed, no_flaws, sector_at, sector_of, stable_at, struck_flaws, written_flaws, zipped}
 use Rattle.satl_disk.specs.Sectors.{Sector, after_power_loss, cells_of, is_stuck, left_block, mended_sector, rest_by, struck_sector, write_at, written_sector, written_stable}
-use Rattle.satl_disk.proofs.LayoutLemmas.{flawed_of, struck_of, zipped-at, zipped-length, zipped-set}
-use Rattle.satl_disk.proofs.SectorsLemmas.{changed_same, changed_set, flag_at, stuck_at}
+use Rattle.satl_disk.proofs.LayoutLemmas.{flawed_of, no_flaw_of, struck_of, zipped-at, zipped-length, zipped-set}
+use Rattle.satl_disk.proofs.SectorsLemmas.{changed_same, changed_set, flag_at, flag_none, set_none, stuck_at}
 
-module _ (bs : List Block) (os : List (Option Block)) (fs : List Flaws) (olds : List Sector) (view : zipped sector_of bs os fs ≡ olds) (sizes : (length bs ≡ length fs) × (length os ≡ length fs)) where
+module _ {struck : Bool} (bs : List Block) (os : List (Option Block)) (fs : List Flaws) (olds : List Sector) (view : zipped sector_of bs os fs ≡ olds)
+    (inside : (length bs ≡ length fs) × (length os ≡ length fs) × (struck ≡ false → All (λ f. f ≡ no_flaws) fs)) where
   pub size_is : length olds ≡ length fs
-  size_is = sym (ap length view) ∙ zipped-length sector_of bs os fs sizes.0 sizes.1
+  size_is = sym (ap length view) ∙ zipped-length sector_of bs os fs inside.0 inside.1
 
   module _ (place : ℕ) (h : place < length fs) where
     abbrev b : Block
@@ -32,7 +35,7 @@ module _ (bs : List Block) (os : List (Option Block)) (fs : List Flaws) (olds : 
     s = sector_of b o f
 
     at_place : (x : Sector) → s ≡ slice_index_or olds place x
-    at_place x = zipped-at sector_of bs os fs place zero_block None no_flaws x h sizes.0 sizes.1 ∙ ap (λ xs. slice_index_or xs place x) view
+    at_place x = zipped-at sector_of bs os fs place zero_block None no_flaws x h inside.0 inside.1 ∙ ap (λ xs. slice_index_or xs place x) view
 
     within : place < length olds
     within = omega (arith, size_is, h)
@@ -96,3 +99,13 @@ module _ (bs : List Block) (os : List (Option Block)) (fs : List Flaws) (olds : 
 
       pub clean_rest : (bytes : List ℕ) → bytes ≡ rest_by (sector_at olds place) bytes
       clean_rest bytes = ap (λ y. rest_by (sector_of b y f) bytes) clean ∙ ap (λ y. rest_by y bytes) (at_place blank_sector)
+
+  -- where no sector was struck, a search for flaws finds none
+  pub none_is : struck ≡ false → (which : Which) (lba count : ℕ) → None ≡ first_flaw which (cells_of olds) lba count
+  none_is never which lba count = set_none (map (has_flaw which) (cells_of olds)) lba count clear
+    where
+      clear : (place : ℕ) → false ≡ slice_index_or (map (has_flaw which) (cells_of olds)) place false
+      clear place = elim (cases_lt place (length fs)) [
+        | inl h ↦ sym (no_flaw_of which) ∙ flag_is place h which no_flaws (sym (inside.2 never place no_flaws h))
+        | inr h ↦ flag_none olds which place (omega (arith, size_is, h))
+      ]

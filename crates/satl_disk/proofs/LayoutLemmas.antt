@@ -1,5 +1,5 @@
 -- Blocks behind the end of a list, and three lists side by side.
-use Rattle.std.proofs.Common.{◌≡◌, refl, sym, ◌∙◌, ap, ℕ, ◌+◌, ◌<◌, ◌≤◌, zero, suc, List, [], ◌∷◌, ◌++◌, append_assoc, arith, length, map, Option, None}
+use Rattle.std.proofs.Common.{◌≡◌, refl, sym, ◌∙◌, ap, ℕ, ◌+◌, ◌<◌, ◌≤◌, zero, suc, false, List, [], ◌∷◌, ◌++◌, append_assoc, arith, length, map, Option, None}
 use Rattle.std.specs.Prelude.{◌-◌, replicate, slice_index_or, slice_set}
 use Rattle.std.proofs.lemmas.List.{append-nil, get_or_default, get_or_past}
 use Rattle.satl_base.specs.declared.block.Block.{Block}
@@ -8,7 +8,7 @@ use Rattle.satl_base.specs.declared.bench.Which.TheVariants.{Read, Write}
 use Rattle.satl_base.specs.Blocks.{zero_block}
 use Rattle.satl_base.specs.Cells.{has_flaw}
 use Rattle.satl_disk.specs.declared.sectors.Flaws.{Flaws}
-use Rattle.satl_disk.specs.Layout.{block_at, is_flawed, front_blocks, sector_of, struck_flaws, zipped}
+use Rattle.satl_disk.specs.Layout.{block_at, is_flawed, front_blocks, no_flaws, sector_of, struck_flaws, zipped}
 use Rattle.satl_disk.specs.Sectors.{cell_of, settled_sector, struck_sector}
 
 pub filled-length : (n : ℕ) (bs : List Block) → length (front_blocks n bs) ≡ n
@@ -132,3 +132,7 @@ struck_of Write b o f = refl
 pub flawed_of : (which : Which) (b : Block) (o : Option Block) (f : Flaws) → is_flawed which f ≡ has_flaw which (cell_of (sector_of b o f))
 flawed_of Read b o f = refl
 flawed_of Write b o f = refl
+
+pub no_flaw_of : (which : Which) → is_flawed which no_flaws ≡ false
+no_flaw_of Read = refl
+no_flaw_of Write = refl
