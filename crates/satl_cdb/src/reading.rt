@@ -40,6 +40,7 @@ fn pass_through_16_of(cdb: &[u8; 16]) -> Command
 /// The command that a command descriptor block asks for, on a drive with or without trim. A block shorter than 16
 /// bytes stands at the front, and the bytes after it are not looked at. `Err` has the refusal of the lowest byte that the
 /// table of operation codes refuses; ATA PASS-THROUGH is never refused here (SPC-4, SBC-3, SAT-3 and the profile).
+#[inline(always)]
 #[tactic(auto, unfolding(crate::specs::Table::says))]
 pub fn read_cdb(cdb: &[u8; 16], trim: bool) -> Result<Command, Illegal>
     ensures { result ≡ says cdb.now trim }
