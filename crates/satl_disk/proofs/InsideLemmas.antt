@@ -14,7 +14,7 @@ use Rattle.satl_disk.specs.Disk.{blank_sector}
 use Rattle.satl_disk.specs.Layout.{block_at, is_flawed, no_flaws, sector_at, sector_of, stable_at, struck_flaws, written_flaws, zipped}
 use Rattle.satl_disk.specs.Sectors.{Sector, after_power_loss, cells_of, is_stuck, left_block, mended_sector, rest_by, struck_sector, write_at, written_sector, written_stable}
 use Rattle.satl_disk.proofs.LayoutLemmas.{flawed_of, no_flaw_of, struck_of, zipped-at, zipped-length, zipped-set}
-use Rattle.satl_disk.proofs.SectorsLemmas.{changed_same, changed_set, flag_at, flag_none, set_none, stuck_at}
+use Rattle.satl_disk.proofs.SectorsLemmas.{changed_same, changed_set, flag_at, flag_none, set_none, stuck_at, stuck_none}
 
 module _ {struck : Bool} (bs : List Block) (os : List (Option Block)) (fs : List Flaws) (olds : List Sector) (view : zipped sector_of bs os fs ≡ olds)
     (inside : (length bs ≡ length fs) × (length os ≡ length fs) × (struck ≡ false → All (λ f. f ≡ no_flaws) fs)) where
@@ -79,6 +79,17 @@ module _ {struck : Bool} (bs : List Block) (os : List (Option Block)) (fs : List
         ∙ ap (λ xs. zipped sector_of (slice_set bs place v) xs (slice_set fs place z)) (stables ∙ ap (λ x. slice_set os place (written_stable cached x o)) was)
         ∙ changed_is (λ x. written_sector x v cached) v (written_stable cached b o) z (ap (sector_of v (written_stable cached b o)) (is ∙ ap written_flaws (flaws_are n e)))
 
+    -- where no sector was struck, the flaws stay as they are
+    module _ (never : struck ≡ false) where
+      unflawed : no_flaws ≡ f
+      unflawed = sym (inside.2 never place no_flaws h)
+
+      pub write_unstruck : (v old : Block) (cached : Bool) (bs2 : List Block) (os2 : List (Option Block)) →
+          old ≡ b → os2 ≡ slice_set os place (written_stable cached old o) → bs2 ≡ slice_set bs place v → zipped sector_of bs2 os2 fs ≡ write_at olds place v cached
+      write_unstruck v old cached bs2 os2 was stables blocks =
+          ap (zipped sector_of bs2 os2) (sym (set-get_or fs place no_flaws) ∙ ap (slice_set fs place) (sym unflawed))
+          ∙ write_is v old cached bs2 os2 no_flaws no_flaws unflawed refl was stables blocks
+
     -- a loss of power at a dirty sector
     module _ (x : Block) (dirty : Some x ≡ o) where
       pub left_is : (byte : ℕ) (bs2 : List Block) (os2 : List (Option Block)) → bs2 ≡ slice_set bs place (left_block byte (Some x) b) → os2 ≡ slice_set os place None →
@@ -100,7 +111,14 @@ module _ {struck : Bool} (bs : List Block) (os : List (Option Block)) (fs : List
       pub clean_rest : (bytes : List ℕ) → bytes ≡ rest_by (sector_at olds place) bytes
       clean_rest bytes = ap (λ y. rest_by (sector_of b y f) bytes) clean ∙ ap (λ y. rest_by y bytes) (at_place blank_sector)
 
-  -- where no sector was struck, a search for flaws finds none
+  -- where no sector was struck, none is stuck
+  pub unstuck_is : struck ≡ false → (place : ℕ) → false ≡ is_stuck olds place
+  unstuck_is never place = elim (cases_lt place (length fs)) [
+    | inl h ↦ stuck_is place h no_flaws (sym (inside.2 never place no_flaws h))
+    | inr h ↦ stuck_none olds place (omega (arith, size_is, h))
+  ]
+
+  -- and a search for flaws finds none
   pub none_is : struck ≡ false → (which : Which) (lba count : ℕ) → None ≡ first_flaw which (cells_of olds) lba count
   none_is never which lba count = set_none (map (has_flaw which) (cells_of olds)) lba count clear
     where

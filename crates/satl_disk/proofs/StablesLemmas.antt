@@ -204,10 +204,7 @@ module _ (kept : List Block) (ds : List Bool) (slots : List (Option ℕ)) (olds 
   pub dirties_are : length olds ≡ length ds
   dirties_are = stables_are ∙ sym sizes_are
 
-  module _ (place : ℕ) (within : place < length slots) (dirty : Bool) (was : dirty ≡ slice_index_or ds place dirty) where
-    dirty_is : dirty ≡ slice_index_or ds place false
-    dirty_is = was ∙ get_or_default ds place dirty false (omega (arith, within, sizes_are))
-
+  module _ (place : ℕ) (within : place < length slots) (dirty : Bool) (dirty_is : dirty ≡ slice_index_or ds place false) where
     stable_is : stable_of kept dirty (slot_at slots place) ≡ stable_at olds place
     stable_is =
         ap (λ d. stable_of kept d (slot_at slots place)) dirty_is
@@ -234,14 +231,14 @@ module _ (kept : List Block) (ds : List Bool) (slots : List (Option ℕ)) (olds 
       pub dirty_written : dirty ≡ true → olds ≡ slice_set olds place (written_stable cached x (stable_at olds place))
       dirty_written is = dirty_stays x is ∙ ap (slice_set olds place) (sym (ap (λ b. written_stable b x (stable_at olds place)) through))
 
-  pub all_clear : (slots2 : List (Option ℕ)) (ds2 : List Bool) (n : ℕ) → n ≡ length ds → length slots2 ≡ length slots → ds2 ≡ replicate n false → paired (stable_of kept) ds2 slots2 ≡ replicate (length olds) None
-  all_clear slots2 ds2 n size same clear =
+  pub all_clear : (slots2 : List (Option ℕ)) (ds2 : List Bool) → length slots2 ≡ length slots → ds2 ≡ replicate (length ds) false → paired (stable_of kept) ds2 slots2 ≡ replicate (length olds) None
+  all_clear slots2 ds2 same clear =
       ap (λ xs. paired (stable_of kept) xs slots2) clear
-      ∙ clean_stables kept slots2 n (omega (arith, size, same, sizes_are))
-      ∙ ap (λ k. replicate k None) (size ∙ sym dirties_are)
+      ∙ clean_stables kept slots2 (length ds) (omega (arith, same, sizes_are))
+      ∙ ap (λ k. replicate k None) (sym dirties_are)
 
-  pub clear_has : (slots2 : List (Option ℕ)) (ds2 : List Bool) (n : ℕ) → n ≡ length ds → length slots2 ≡ length slots → ds2 ≡ replicate n false → AllZip HasSlot ds2 slots2
-  clear_has slots2 ds2 n size same clear = subst (λ xs. AllZip HasSlot xs slots2) (sym clear) (clean_have slots2 n (omega (arith, size, same, sizes_are)))
+  pub clear_has : (slots2 : List (Option ℕ)) (ds2 : List Bool) → length slots2 ≡ length slots → ds2 ≡ replicate (length ds) false → AllZip HasSlot ds2 slots2
+  clear_has slots2 ds2 same clear = subst (λ xs. AllZip HasSlot xs slots2) (sym clear) (clean_have slots2 (length ds) (omega (arith, same, sizes_are)))
 
   -- a clean sector gets dirty
   module _ (place slot : ℕ) (b : Block) (kept2 : List Block) (slots2 : List (Option ℕ)) (took : slots2 ≡ slice_set slots place (Some slot)) (put : kept2 ≡ slice_set kept slot b) where

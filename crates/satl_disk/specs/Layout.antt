@@ -1,6 +1,6 @@
 -- How the modelled drive keeps its sectors: their blocks, the stable blocks of the dirty ones, in slots, and their flaws
 -- (profile).
-use Rattle.std.specs.Prelude.{◌≡◌, ℕ, zero, suc, ◌^◌, ◌<◌, Bool, true, false, List, [], ◌∷◌, Option, Some, None, count_by, is_some, option_map, length, slice_index_or}
+use Rattle.std.specs.Prelude.{◌≡◌, ℕ, zero, suc, ◌^◌, ◌<◌, ◌==◌, Bool, true, false, List, [], ◌∷◌, Option, Some, None, count_by, is_some, option_map, length, map, slice_index_or}
 use Rattle.satl_base.specs.declared.block.Block.{Block}
 use Rattle.satl_base.specs.declared.bench.Which.{Which}
 use Rattle.satl_base.specs.declared.bench.Which.TheVariants.{Read, Write}
@@ -25,6 +25,10 @@ zipped f [] ys zs = []
 zipped f (x ∷ xs) [] zs = []
 zipped f (x ∷ xs) (y ∷ ys) [] = []
 zipped f (x ∷ xs) (y ∷ ys) (z ∷ zs) = f x y z ∷ zipped f xs ys zs
+
+-- whether each place is marked: its round is this one
+abbrev pub marked_in : ℕ → List ℕ → List Bool
+marked_in round rounds = map (λ r. r == round) rounds
 
 -- the slot of the sector at a place, none behind the end
 abbrev pub slot_at : List (Option ℕ) → ℕ → Option ℕ

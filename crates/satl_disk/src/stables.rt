@@ -1,11 +1,12 @@
 // The blocks that a loss of power may bring back.
-ghost use Rattle.std.specs.Prelude.{◌≡◌, ◌<◌, false, None, Some, IfOk, length, replicate, slice_set, vec_len};
+ghost use Rattle.std.specs.Prelude.{◌≡◌, ◌<◌, None, Some, IfOk, length, replicate, slice_set};
 ghost use Rattle.std.specs.Option.{option_copied};
 ghost use Rattle.satl_disk.specs.Sectors.{written_stable};
 ghost use Rattle.satl_base.specs.declared.block.Block.{Block};
 ghost use Rattle.satl_disk.specs.Layout.{stable_at};
 
 use crate::blocks::Blocks;
+use crate::marks::Marks;
 use crate::slots::Slots;
 use satl_base::{Block, NoMemory};
 use std::alloc::Global;
@@ -18,8 +19,8 @@ const MANY_SLOTS: u32 = 1024;
 /// each sector. The memory for a block a sector is taken when they are made, and touched as slots are first used.
 #[derive(Drop)]
 pub struct Stables {
-    // Apart from the slots, so that a flush fills one byte a sector.
-    dirty: Vec<bool>,
+    // Apart from the slots, so that a flush is one step.
+    dirty: Marks,
     // A sector has its slot until all are taken back, also while it is clean.
     slots: Slots,
     // A block for each slot: few of them are used again and again, so that they stay in a cache.
@@ -35,9 +36,9 @@ impl Model for Stables {
 
     ghost Value = { List (Option Block) };
 
-    ghost view = { λ s. paired (stable_of s.kept) s.dirty.items s.slots };
+    ghost view = { λ s. paired (stable_of s.kept) s.dirty s.slots };
 
-    ghost invariant = { λ s. AllZip HasSlot s.dirty.items s.slots × (length s.kept ≡ length s.slots) };
+    ghost invariant = { λ s. AllZip HasSlot s.dirty s.slots × (length s.kept ≡ length s.slots) };
 }
 
 impl Stables {
@@ -46,7 +47,7 @@ impl Stables {
         ensures { IfOk result (λ stables. stables ≡ replicate number None) }
     {
         Ok(Stables {
-            dirty: vec![in alloc; false; number as usize]?,
+            dirty: Marks::none(alloc, number)?,
             slots: Slots::none(alloc, number)?,
             kept: Blocks::zeros(alloc, number as usize)?,
         })
@@ -57,7 +58,7 @@ impl Stables {
         requires { place < length self.now }
         ensures { option_copied result ≡ stable_at self.now place }
     {
-        if !self.dirty[place] {
+        if !self.dirty.has(place) {
             return None;
         }
         let slot = self.slots.get(place)?;
@@ -71,7 +72,7 @@ impl Stables {
     {
         if !cached {
             self.clear(place);
-        } else if !self.dirty[place] {
+        } else if !self.dirty.has(place) {
             self.keep(place, old);
         }
     }
@@ -83,7 +84,7 @@ impl Stables {
     {
         let slot = self.slots.take(place);
         self.kept.set(slot as usize, old);
-        self.dirty[place] = true;
+        self.dirty.mark(place);
     }
 
     /// A sector gets clean.
@@ -91,25 +92,16 @@ impl Stables {
         requires { place < length self.old }
         ensures { self.new ≡ slice_set self.old place None }
     {
-        self.dirty[place] = false;
+        self.dirty.unmark(place);
     }
 
     /// All sectors get clean.
     pub fn clear_all(&mut self)
         ensures { self.new ≡ replicate (length self.old) None }
     {
-        clear_flags(&mut self.dirty);
+        self.dirty.unmark_all();
         if self.slots.used() >= MANY_SLOTS {
             self.slots.clear();
         }
-    }
-}
-
-fn clear_flags(flags: &mut Vec<bool>)
-    ensures size { vec_len flags.new ≡ vec_len flags.old }
-    ensures value { flags.new.items ≡ replicate (vec_len flags.old) false }
-{
-    for flag in flags.iter_mut() {
-        *flag = false;
     }
 }

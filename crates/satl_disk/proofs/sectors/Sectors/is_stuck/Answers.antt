@@ -1,7 +1,12 @@
 use Rattle.std.proofs.Common.{arith}
-use Rattle.satl_disk.proofs.InsideLemmas.{size_is, stuck_is}
+use Rattle.satl_disk.proofs.InsideLemmas.{size_is, stuck_is, unstuck_is}
 use Rattle.satl_disk.proofs.SectorsLemmas.{stuck_none}
 use Rattle.satl_disk.proofs.sectors.Sectors.is_stuck.Goals as goal
+
+pub returns-then-not-self : goal.returns-then-not-self
+returns-then-not-self c =
+    let i = c.self.inside in
+    unstuck_is i.blocks i.stables i.flaws.items c.args.self.now c.self.view_is c.self.invariant c.if-not-self.true c.args.place
 
 pub returns-then-place-len : goal.returns-then-place-len
 returns-then-place-len c =

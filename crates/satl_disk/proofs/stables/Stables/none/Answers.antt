@@ -11,14 +11,14 @@ pub invariant_of-result : goal.invariant_of-result
 invariant_of-result c =
     let n = c.args.number in
     let none : Option ℕ = None in
-    let slots : n ≡ length c.in_ok-none.field-0 = omega (arith, ap length c.in_ok-none.ensures, length-replicate n none) in
-    let sizes : length c.in_ok-zeros.field-0 ≡ length c.in_ok-none.field-0 = omega (arith, slots, ap length c.in_ok-zeros.ensures, length-replicate n zero_block) in
-    (subst (λ (ds : List Bool). AllZip HasSlot ds c.in_ok-none.field-0) (sym (c.in_ok-vec.ensures.items_if_clones_equal (λ y same. same))) (clean_have c.in_ok-none.field-0 n slots), sizes)
+    let slots : n ≡ length c.in_ok-none-2.field-0 = omega (arith, ap length c.in_ok-none-2.ensures, length-replicate n none) in
+    let sizes : length c.in_ok-zeros.field-0 ≡ length c.in_ok-none-2.field-0 = omega (arith, slots, ap length c.in_ok-zeros.ensures, length-replicate n zero_block) in
+    (subst (λ (ds : List Bool). AllZip HasSlot ds c.in_ok-none-2.field-0) (sym c.in_ok-none.ensures) (clean_have c.in_ok-none-2.field-0 n slots), sizes)
 
 pub returns : goal.returns
 returns c =
     let n = c.args.number in
     let none : Option ℕ = None in
-    let slots : n ≡ length c.in_ok-none.field-0 = omega (arith, ap length c.in_ok-none.ensures, length-replicate n none) in
-    ap (λ (ds : List Bool). paired (stable_of c.in_ok-zeros.field-0) ds c.in_ok-none.field-0) (c.in_ok-vec.ensures.items_if_clones_equal (λ y same. same))
-    ∙ clean_stables c.in_ok-zeros.field-0 c.in_ok-none.field-0 n slots
+    let slots : n ≡ length c.in_ok-none-2.field-0 = omega (arith, ap length c.in_ok-none-2.ensures, length-replicate n none) in
+    ap (λ (ds : List Bool). paired (stable_of c.in_ok-zeros.field-0) ds c.in_ok-none-2.field-0) c.in_ok-none.ensures
+    ∙ clean_stables c.in_ok-zeros.field-0 c.in_ok-none-2.field-0 n slots

@@ -1,0 +1,13 @@
+use Rattle.std.proofs.Common.{arith}
+use Rattle.satl_disk.proofs.MarksLemmas.{first_round, next_round}
+use Rattle.satl_disk.proofs.marks.Marks.unmark_all.Goals as goal
+
+pub returns-in-Some : goal.returns-in-Some
+returns-in-Some c =
+    let i = c.self.inside in
+    next_round i.round i.rounds.items c.args.self.now c.self.view_is c.in-Some.next (omega (arith, c.in-Some.ensures.1)) c.self.invariant.1
+
+pub returns-in-None : goal.returns-in-None
+returns-in-None c =
+    let i = c.self.inside in
+    first_round i.round i.rounds.items c.args.self.now c.self.view_is c.clear_rounds.new.rounds.items _ i.rounds.ok.0 c.clear_rounds.ensures.value
