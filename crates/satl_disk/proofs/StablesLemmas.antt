@@ -1,5 +1,5 @@
 -- The slots of the sectors, and their stable blocks.
-use Rattle.std.proofs.Common.{◌≡◌, ◌≢◌, refl, sym, subst, ◌∙◌, ap, inl, inr, ◌⊎◌, ℕ, ◌+◌, ◌<◌, zero, suc, Bool, true, false, cond, List, [], ◌∷◌, arith, count_by, is_some, length, map, Option, Some, None}
+use Rattle.std.proofs.Common.{◌≡◌, ◌≢◌, refl, sym, subst, ◌∙◌, ap, inl, inr, ◌⊎◌, ℕ, ◌+◌, ◌<◌, zero, suc, Bool, true, false, cond, List, [], ◌∷◌, arith, count_by, is_some, length, Option, Some, None}
 use Rattle.std.specs.Prelude.{◌^◌, IfSome, option_map, replicate, slice_index_or, slice_set, unwrap_or}
 use Rattle.std.specs.List.{AllZip}
 use Rattle.std.proofs.lemmas.List.{get_or-set_other, get_or-set_same, get_or_default, length-replicate, length-set, set-get_or}
@@ -11,11 +11,6 @@ use Rattle.satl_base.specs.declared.block.Block.{Block}
 use Rattle.satl_base.specs.Blocks.{zero_block}
 use Rattle.satl_base.specs.Lists.{paired}
 use Rattle.satl_disk.specs.Layout.{AreSlots, HasSlot, block_at, slot_at, stable_at, stable_of}
-
--- a list of which each item was replaced by the same one
-pub all_same : {A : Type 0} (x : A) (xs : List A) → map (λ (y : A). x) xs ≡ replicate (length xs) x
-all_same x [] = refl
-all_same x (y ∷ xs) = ap (λ ys. x ∷ ys) (all_same x xs)
 
 -- two lists side by side
 pub paired-length : {A B C : Type 0} (f : A → B → C) (xs : List A) (ys : List B) → length xs ≡ length ys → length (paired f xs ys) ≡ length ys

@@ -1,5 +1,5 @@
 // Places that are marked one by one, and unmarked all at once.
-ghost use Rattle.std.specs.Prelude.{◌≡◌, ◌<◌, true, false, IfOk, length, replicate, slice_index_or, slice_set, vec_len};
+ghost use Rattle.std.specs.Prelude.{◌≡◌, ◌<◌, true, false, IfOk, length, replicate, slice_index_or, slice_set};
 
 use satl_base::NoMemory;
 use std::alloc::Global;
@@ -69,20 +69,9 @@ impl Marks {
         match self.round.checked_add(1) {
             Some(next) => self.round = next,
             None => {
-                clear_rounds(&mut self.rounds);
+                self.rounds[..].fill(0);
                 self.round = 1;
             }
         }
-    }
-}
-
-/// No place has a round. Apart from `unmark_all`, which is short without it.
-#[inline(never)]
-fn clear_rounds(rounds: &mut Vec<u32>)
-    ensures size { vec_len rounds.new ≡ vec_len rounds.old }
-    ensures value { rounds.new.items ≡ replicate (vec_len rounds.old) 0 }
-{
-    for round in rounds.iter_mut() {
-        *round = 0;
     }
 }

@@ -1,5 +1,5 @@
 // The slots that the sectors of the modelled drive have in the store of old blocks.
-ghost use Rattle.std.specs.Prelude.{◌≡◌, ℕ, ◌<◌, ◌≢◌, None, Option, Some, IfOk, IfSome, count_by, is_some, length, replicate, slice_set, vec_len};
+ghost use Rattle.std.specs.Prelude.{◌≡◌, ℕ, ◌<◌, ◌≢◌, None, Option, Some, IfOk, IfSome, count_by, is_some, length, replicate, slice_set};
 ghost use Rattle.satl_disk.specs.Layout.{slot_at};
 
 use satl_base::NoMemory;
@@ -73,16 +73,7 @@ impl Slots {
     pub fn clear(&mut self)
         ensures { self.new ≡ replicate (length self.old) None }
     {
-        clear_places(&mut self.places);
+        self.places[..].fill(None);
         self.used = 0;
-    }
-}
-
-fn clear_places(places: &mut Vec<Option<u32>>)
-    ensures size { vec_len places.new ≡ vec_len places.old }
-    ensures value { places.new.items ≡ replicate (vec_len places.old) None }
-{
-    for slot in places.iter_mut() {
-        *slot = None;
     }
 }

@@ -1,4 +1,5 @@
-use Rattle.std.proofs.Common.{arith}
+use Rattle.std.proofs.Common.{ap, arith, length, ◌∙◌}
+use Rattle.std.proofs.lemmas.List.{with_items_is}
 use Rattle.satl_disk.proofs.MarksLemmas.{first_round, next_round}
 use Rattle.satl_disk.proofs.marks.Marks.unmark_all.Goals as goal
 
@@ -10,4 +11,6 @@ returns-in-Some c =
 pub returns-in-None : goal.returns-in-None
 returns-in-None c =
     let i = c.self.inside in
-    first_round i.round i.rounds.items c.args.self.now c.self.view_is c.clear_rounds.new.rounds.items _ i.rounds.ok.0 c.clear_rounds.ensures.value
+    let all = ap length c.deref_mut.ensures.value in
+    first_round i.round i.rounds.items c.args.self.now c.self.view_is _ _ all
+    (with_items_is i.rounds c.fill.new.self (omega (arith, c.fill.ensures.len, all, i.rounds.ok.0)) ∙ c.fill.ensures.after (λ y same. same))
