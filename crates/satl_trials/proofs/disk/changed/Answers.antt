@@ -1,6 +1,6 @@
 use Rattle.std.proofs.Common.{arith}
 use Rattle.satl_disk.proofs.RewordLemmas.{new_may_reword}
-use Rattle.satl_disk.proofs.tests.changed.Goals as goal
+use Rattle.satl_trials.proofs.disk.changed.Goals as goal
 
 pub returns-clause-fit : goal.returns-clause-fit
 returns-clause-fit c =

@@ -3,8 +3,8 @@ use Rattle.satl_drive.specs.Rules.{CanRun}
 use Rattle.satl_regs.specs.Commands.{command_in, command_row}
 use Rattle.satl_disk.specs.Disk.{state_of}
 use Rattle.satl_disk.proofs.RunLemmas.{quiet_can_run}
-use Rattle.satl_disk.proofs.tests.give.Goals as goal
-use Rattle.satl_disk.proofs.tests.give.Goals.{in-Identify, in-Write, in-Read}
+use Rattle.satl_trials.proofs.disk.give.Goals as goal
+use Rattle.satl_trials.proofs.disk.give.Goals.{in-Identify, in-Write, in-Read}
 
 pub run-requires : goal.run-requires
 unfolding command_in command_row

@@ -1,6 +1,6 @@
 // A sector as blocks are put, flushed, lost and read; and records that are judged.
 
-use crate::{AuditFault, Content, Kept, Verdict, audit};
+use satl_audit::{AuditFault, Content, Kept, Verdict, audit};
 use satl_frame::Reason;
 use satl_identify::read_identity;
 use std::alloc::Global;

@@ -1,7 +1,7 @@
 use Rattle.std.proofs.Common.{◌∙◌, ap, arith, refl}
 use Rattle.satl_disk.specs.Disk.{Disk}
 use Rattle.satl_disk.proofs.RewordLemmas.{new_may_reword, unqueued_may_reword}
-use Rattle.satl_disk.proofs.tests.unqueued.Goals as goal
+use Rattle.satl_trials.proofs.disk.unqueued.Goals as goal
 
 pub returns-clause-fit : goal.returns-clause-fit
 returns-clause-fit c =
