@@ -16,7 +16,7 @@ use Rattle.satl_base.specs.Losses.{Loses}
 use Rattle.satl_base.proofs.CellsLemmas.{change_at-length}
 use Rattle.satl_base.proofs.LossesLemmas.{loses-sound}
 use Rattle.satl_base.proofs.MovesLemmas.{lose_once}
-use Rattle.satl_io.specs.Causes.{RoseBy, next_count}
+use Rattle.satl_io.specs.Causes.{RoseBy}
 use Rattle.satl_io.proofs.Counting.{RoseBy-none}
 use Rattle.satl_regs.specs.Effects.{IsTelling}
 use Rattle.satl_regs.specs.Sectors.{IsLeftBehind, with_flaw, without_flaws}
@@ -26,8 +26,8 @@ use Rattle.satl_unit.specs.declared.attention.Attention.{Attention}
 use Rattle.satl_unit.specs.declared.attention.Attention.TheVariants.{PowerOn}
 use Rattle.satl_unit.specs.Conditions.{IsInReportOrder}
 use Rattle.satl_line.specs.Tasks.{Held}
-use Rattle.satl_drive.specs.State.{DriveState, IsFit}
-use Rattle.satl_drive.specs.Bench.{IsPowerCycled, IsUnplugged}
+use Rattle.satl_drive.specs.State.{DriveState, IsFit, Orders}
+use Rattle.satl_drive.specs.Bench.{IsPowerCycled, IsUnplugged, with_order}
 use Rattle.satl_drive.specs.Queue.{all_pairs}
 use Rattle.satl_direct.specs.Bench as direct
 use Rattle.satl_direct.specs.Bench.{Happens}
@@ -60,7 +60,7 @@ use Rattle.satl_core.proofs.DeviceLemmas.{rest_lost}
 
 -- ---- what the drive does
 
--- an event that changes sectors, glitches or the number of orders alone
+-- an event that changes sectors, glitches or the account of order bytes alone
 record ChangesMedium (old new : DriveState) : Type 0 where
   size : length new.cells ≡ length old.cells
   sound : AreSound old.cells → AreSound new.cells
@@ -85,7 +85,7 @@ changes_at f keeps lba old new is =
       stays = is ∙ ap (λ (d : DriveState). record old { cells = d.cells; glitches = d.glitches; orders = d.orders }) (sym is);
     }
 
-changes_counts : (glitches orders : ℕ) (old new : DriveState) → new ≡ record old { glitches = glitches; orders = orders } → ChangesMedium old new
+changes_counts : (glitches : ℕ) (orders : Orders) (old new : DriveState) → new ≡ record old { glitches = glitches; orders = orders } → ChangesMedium old new
 changes_counts glitches orders old new is =
     let cells : new.cells ≡ old.cells = ap (λ (d : DriveState). d.cells) is in
     record {
@@ -158,7 +158,7 @@ pub happens : (event : BenchEvent) (l new : Layer) (d d' : DriveState) (replies 
 happens (Strike which lba) l new d d' replies tied acted r = around_alone (Happens (Strike which lba)) (view l d) (view new d') replies (unanswered l new d d' replies (record d { cells = change_at d.cells lba (with_flaw which) }) acted r)
 happens (Mend lba) l new d d' replies tied acted r = around_alone (Happens (Mend lba)) (view l d) (view new d') replies (unanswered l new d d' replies (record d { cells = change_at d.cells lba without_flaws }) acted r)
 happens (Glitch count) l new d d' replies tied acted r = around_alone (Happens (Glitch count)) (view l d) (view new d') replies (unanswered l new d d' replies (record d { glitches = count }) acted r)
-happens (Order order) l new d d' replies tied acted r = around_alone (Happens (Order order)) (view l d) (view new d') replies (unanswered l new d d' replies (record d { orders = next_count d.orders }) acted r)
+happens (Order order) l new d d' replies tied acted r = around_alone (Happens (Order order)) (view l d) (view new d') replies (unanswered l new d d' replies (record d { orders = with_order order d.orders }) acted r)
 happens Power l new d d' replies tied acted r = around_alone (Happens Power) (view l d) (view new d') replies (powered l new d d' replies tied.agrees.valid.nexuses acted r)
 happens Unplug l new d d' replies tied acted r = unplugged l new d d' replies tied acted r
 
@@ -233,7 +233,7 @@ pub still_tied : (event : BenchEvent) (l new : Layer) (d d' : DriveState) (repli
 still_tied (Strike which lba) l new d d' replies acted r fit tied = tied_changed l new d d' (changes_at (with_flaw which) (flaw-sound which) lba d d' acted) r.stays fit tied
 still_tied (Mend lba) l new d d' replies acted r fit tied = tied_changed l new d d' (changes_at without_flaws (λ c sound. sound) lba d d' acted) r.stays fit tied
 still_tied (Glitch count) l new d d' replies acted r fit tied = tied_changed l new d d' (changes_counts count d.orders d d' acted) r.stays fit tied
-still_tied (Order order) l new d d' replies acted r fit tied = tied_changed l new d d' (changes_counts d.glitches (next_count d.orders) d d' acted) r.stays fit tied
+still_tied (Order order) l new d d' replies acted r fit tied = tied_changed l new d d' (changes_counts d.glitches (with_order order d.orders) d d' acted) r.stays fit tied
 still_tied Power l new d d' replies acted r fit tied = tied_powered l new d d' replies acted r fit tied
 still_tied Unplug l new d d' replies acted r fit tied = tied_unplugged l new d d' replies acted r fit tied
 

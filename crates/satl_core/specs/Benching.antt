@@ -6,8 +6,8 @@ use Rattle.satl_base.specs.declared.reply.Reply.{Reply}
 use Rattle.satl_io.specs.Causes.{next_count}
 use Rattle.satl_mode.specs.ModePages.{defaults}
 use Rattle.satl_unit.specs.declared.attention.Attention.TheVariants.{PowerOn}
-use Rattle.satl_drive.specs.State.{DriveState}
-use Rattle.satl_drive.specs.Bench.{IsGlitched, IsMended, IsOrdered, IsPowerCycled, IsStruck, IsUnplugged}
+use Rattle.satl_drive.specs.State.{DriveState, Orders}
+use Rattle.satl_drive.specs.Bench.{IsGlitched, IsMended, IsOrdered, IsPowerCycled, IsStruck, IsUnplugged, with_order}
 use Rattle.satl_core.specs.Layer.{Layer}
 use Rattle.satl_core.specs.Turning.{lost_replies}
 
@@ -16,7 +16,7 @@ abbrev pub IsActedOn : BenchEvent → DriveState → DriveState → Type 0
 IsActedOn (Strike which lba) old new = IsStruck which lba old new
 IsActedOn (Mend lba) old new = IsMended lba old new
 IsActedOn (Glitch count) old new = IsGlitched count old new
-IsActedOn (Order order) old new = IsOrdered old new
+IsActedOn (Order bytes) old new = IsOrdered bytes old new
 IsActedOn Power old new = IsPowerCycled old new
 IsActedOn Unplug old new = IsUnplugged old new
 
@@ -58,8 +58,7 @@ abbrev pub unplugs_after : BenchEvent → ℕ → ℕ
 unplugs_after Unplug before = next_count before
 unplugs_after _ before = before
 
--- how often order bytes were handed in to the drive after an event: once more at ORDER, or still so often where the number is
--- at its last value (profile)
-abbrev pub orders_after : BenchEvent → ℕ → ℕ
-orders_after (Order order) before = next_count before
+-- the drive's account of order bytes after an event: with its bytes behind at ORDER (profile)
+abbrev pub orders_after : BenchEvent → Orders → Orders
+orders_after (Order bytes) before = with_order bytes before
 orders_after _ before = before

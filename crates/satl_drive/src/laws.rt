@@ -1,9 +1,9 @@
 //! What the rules of a drive come to.
-ghost use Rattle.std.specs.Prelude.{◌≡◌, ◌≢◌, ◌+◌, ◌-◌, ◌^◌, ◌<◌, ◌≤◌, ℕ, Bool, true, false, List, [], ◌∷◌, ◌++◌, Option, Some, None, map, length};
+ghost use Rattle.std.specs.Prelude.{◌≡◌, ◌≢◌, ◌+◌, ◌-◌, ◌^◌, ◌<◌, ◌≤◌, ℕ, Bool, true, false, List, [], ◌∷◌, ◌++◌, Some, None, map, length};
 ghost use Rattle.std.specs.List.{AllByRecursion, list_any};
 ghost use Rattle.satl_base.specs.declared.bench.Which.{Which};
 ghost use Rattle.satl_base.specs.declared.block.Block.{Block};
-ghost use Rattle.satl_base.specs.Cells.{Cell, pairs_from, settle};
+ghost use Rattle.satl_base.specs.Cells.{pairs_from};
 ghost use Rattle.satl_base.specs.Identify.{has_cache, has_queued_trim};
 ghost use Rattle.satl_base.specs.Lists.{how_many};
 ghost use Rattle.satl_regs.specs.declared.values.AtaCommand.TheVariants.{ReadLog};
@@ -103,10 +103,14 @@ pub fn an_unplug_counts_one()
         (new.unplugs ≡ old.unplugs + 1) × (new.down ≡ true) × (new.outstanding ≡ []) }
 {}
 
-/// Law of orders: they are counted one by one, and nothing else changes (profile).
-pub fn an_order_counts_one()
-    ensures { (old new : DriveState) → old.orders < 2 ^ 64 - 1 → IsOrdered old new →
-        new ≡ record old { orders = old.orders + 1 } }
+/// Law of orders: they change the number that stands for them alone, and where each bytes have a number of their own it tells
+/// which were handed in (profile).
+pub fn an_order_changes_its_account_alone()
+    ensures alone { (bytes : List ℕ) (old new : DriveState) → IsOrdered bytes old new →
+        new ≡ record old { orders = record old.orders { number = new.orders.number } } }
+    ensures told { (bytes others : List ℕ) (old new : DriveState) → IsOrdered bytes old new → IsOrdered others old new →
+        ((a b : List ℕ) → old.orders.next a old.orders.number ≡ old.orders.next b old.orders.number → a ≡ b) →
+        bytes ≡ others }
 {}
 
 /// Law of strikes: outside the capacity a strike changes nothing (profile).

@@ -11,10 +11,10 @@ use Rattle.satl_drive.specs.State.{DriveState}
 use Rattle.satl_direct.specs.Run.{losses_in}
 use Rattle.satl_direct.specs.Run.RunDeep.{start, next_event}
 use Rattle.satl_direct.proofs.Quieting.{quiet_none}
-use Rattle.satl_step.specs.Events.{orders_behind, unplugs_behind}
-use Rattle.satl_step.specs.Runs.{KeepsDeepest, is_order, is_unplug, tally_of}
+use Rattle.satl_step.specs.Events.{unplugs_behind}
+use Rattle.satl_step.specs.Runs.{KeepsDeepest, is_unplug, orders_behind, tally_of}
 use Rattle.satl_direct.specs.Run.RunInPart.{one_event_more}
-use Rattle.satl_step.proofs.RunLemmas.{Counts, counts_more, orders_one, unplugs_one}
+use Rattle.satl_step.proofs.RunLemmas.{Counts, counts_more, orders_more, unplugs_one}
 use Rattle.satl_fleet.specs.Output.{NoAnswersBehind, Round, frames_of, group_of, groups_for}
 use Rattle.satl_fleet.specs.Rounds.{EachDid, Stops, round_of, silence}
 use Rattle.satl_fleet.specs.Rounds.EachDid.{none as no_unit, passes as unit_passes, serves as unit_serves}
@@ -30,13 +30,11 @@ use Rattle.satl_fleet.proofs.RoundLemmas.{silent_at}
 counted_more : (events : List Frame) (losses lost : ℕ) (old mid new : DriveState) (event : Frame) → UnitCounted events losses old mid → RoseBy lost mid.faults new.faults → new.unplugs ≡ unplugs_behind event mid.unplugs → new.orders ≡ orders_behind event mid.orders → KeepsDeepest (tally_of mid 0) (tally_of new 0) → UnitCounted (events ++ event ∷ []) (losses + lost) old new
 counted_more events losses lost old mid new event counted faults unplugged ordered queue =
     let u = counts_more is_unplug events event old.unplugs mid.unplugs new.unplugs (record { rose = counted.unplugged; few = counted.few_unplugs }) (subst (Counts is_unplug (event ∷ []) mid.unplugs) (sym unplugged) (unplugs_one event mid.unplugs)) in
-    let o = counts_more is_order events event old.orders mid.orders new.orders (record { rose = counted.ordered; few = counted.few_orders }) (subst (Counts is_order (event ∷ []) mid.orders) (sym ordered) (orders_one event mid.orders)) in
     record {
       faults = RoseBy-more losses lost old.faults mid.faults new.faults counted.faults faults;
       unplugged = u.rose;
       few_unplugs = u.few;
-      ordered = o.rose;
-      few_orders = o.few;
+      orders = orders_more events event old.orders mid.orders new.orders counted.orders ordered;
       rises = omega (arith, counted.rises, queue.rises);
       covers = queue.covers counted.covers;
     }
@@ -163,7 +161,7 @@ run_none units k (s ∷ ss) idle = (
     deep = 0;
     run = start (quiet_none (device_of s));
     deepest = omega arith;
-    counted = record { faults = RoseBy-none s.drive.faults; unplugged = RoseBy-none s.drive.unplugs; few_unplugs = omega arith; ordered = RoseBy-none s.drive.orders; few_orders = omega arith; rises = omega arith; covers = idle.0.covers };
+    counted = record { faults = RoseBy-none s.drive.faults; unplugged = RoseBy-none s.drive.unplugs; few_unplugs = omega arith; orders = refl; rises = omega arith; covers = idle.0.covers };
   },
   run_none units (suc k) ss idle.1,
 )

@@ -1,5 +1,5 @@
 -- Serving from before the units were opened.
-use Rattle.std.proofs.Common.{◌≡◌, ap, subst, arith, ℕ, suc, List, [], ◌∷◌, ◌++◌, length}
+use Rattle.std.proofs.Common.{◌≡◌, ◌∙◌, ap, subst, arith, ℕ, suc, List, [], ◌∷◌, ◌++◌, length}
 use Rattle.std.specs.List.{AllByRecursion}
 use Rattle.satl_io.specs.Causes.{RoseBy}
 use Rattle.satl_frame.specs.Output.{Answer}
@@ -9,7 +9,7 @@ use Rattle.satl_direct.specs.Device.{Device}
 use Rattle.satl_core.specs.Layer.{Layer, view}
 use Rattle.satl_core.specs.Tie.{given_by}
 use Rattle.satl_serve.proofs.ServingLemmas.{first_of, left_as}
-use Rattle.satl_step.specs.Runs.{orders_in, unplugs_in}
+use Rattle.satl_step.specs.Runs.{orders_behind_all, unplugs_in}
 use Rattle.satl_fleet.specs.Opening.{Opens, OpensTo}
 use Rattle.satl_fleet.specs.Opening.OpensTo.{rest, more}
 use Rattle.satl_fleet.specs.Output.{Round, frames_of, groups_for}
@@ -25,14 +25,12 @@ module _ (old mid new : DriveState) (stays : mid ≡ record old { cells = mid.ce
   sooner_counted : (events : List Frame) (losses : ℕ) → UnitCounted events losses mid new → UnitCounted events losses old new
   sooner_counted events losses c =
       let unplugs = ap (λ (d : DriveState). d.unplugs) stays in
-      let orders = ap (λ (d : DriveState). d.orders) stays in
       let deepest = ap (λ (d : DriveState). d.deepest) stays in
       record {
         faults = subst (λ n. RoseBy losses n new.faults) (ap (λ (d : DriveState). d.faults) stays) c.faults;
         unplugged = subst (λ n. RoseBy (unplugs_in events) n new.unplugs) unplugs c.unplugged;
         few_unplugs = omega (arith, c.few_unplugs, unplugs);
-        ordered = subst (λ n. RoseBy (orders_in events) n new.orders) orders c.ordered;
-        few_orders = omega (arith, c.few_orders, orders);
+        orders = c.orders ∙ ap (λ (d : DriveState). orders_behind_all events d.orders) stays;
         rises = omega (arith, c.rises, deepest);
         covers = c.covers;
       }

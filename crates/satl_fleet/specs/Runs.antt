@@ -7,7 +7,7 @@ use Rattle.satl_drive.specs.State.{DriveState}
 use Rattle.satl_direct.specs.Device.{Device}
 use Rattle.satl_direct.specs.Run.{RunDeep, RunInPart}
 use Rattle.satl_serve.specs.Runs.{IsFirstDevice, IsLeftAs, KeepsQueue}
-use Rattle.satl_step.specs.Runs.{orders_in, unplugs_in}
+use Rattle.satl_step.specs.Runs.{orders_behind_all, unplugs_in}
 use Rattle.satl_fleet.specs.Output.{NoAnswersBehind, Round, frames_of, groups_for}
 use Rattle.satl_fleet.specs.Routing.{project, seen}
 use Rattle.satl_fleet.specs.Units.{UnitState, device_of}
@@ -26,14 +26,13 @@ abbrev pub unit_stand_of : UnitState → UnitStand
 unit_stand_of s = unit_stand (device_of s) s.drive
 
 -- events with so many losses were counted: the drive's count of faults rose by the losses at least, or stands at its last
--- value; its number of unplugs rose by the events that unplug it, and its number of orders by the events that hand in order
--- bytes, or it stands at its last value; its deepest queue did not fall (profile)
+-- value; its number of unplugs rose by the events that unplug it, or stands at its last value; its account of order bytes has
+-- those of the events behind, each event's as one piece, and no others; its deepest queue did not fall (profile)
 pub record UnitCounted (events : List Frame) (losses : ℕ) (old new : DriveState) : Type 0 where
   pub faults : RoseBy losses old.faults new.faults
   pub unplugged : RoseBy (unplugs_in events) old.unplugs new.unplugs
   pub few_unplugs : new.unplugs ≤ old.unplugs + unplugs_in events
-  pub ordered : RoseBy (orders_in events) old.orders new.orders
-  pub few_orders : new.orders ≤ old.orders + orders_in events
+  pub orders : new.orders ≡ orders_behind_all events old.orders
   pub rises : old.deepest ≤ new.deepest
   pub covers : length new.outstanding ≤ new.deepest
 

@@ -10,8 +10,8 @@ use Rattle.satl_direct.specs.Device.{Device}
 use Rattle.satl_direct.specs.Run.{Does, DoesInPart, losses_in}
 use Rattle.satl_core.specs.Layer.{Layer, Tied, view}
 use Rattle.satl_core.specs.Tie.{TiesQueue}
-use Rattle.satl_step.specs.Events.{orders_behind, unplugs_behind}
-use Rattle.satl_step.specs.Runs.{IsDeep, KeepsDeepest, tally_of}
+use Rattle.satl_step.specs.Events.{unplugs_behind}
+use Rattle.satl_step.specs.Runs.{IsDeep, KeepsDeepest, orders_behind, tally_of}
 use Rattle.satl_fleet.specs.Output.{told_under}
 
 -- a unit: a layer and its drive (profile)

@@ -17,7 +17,7 @@ use Rattle.satl_direct.specs.Tasks.{task_of}
 use Rattle.satl_core.specs.Layer.{Layer, Tied, view}
 use Rattle.satl_core.specs.Opening.{IsOpened}
 use Rattle.satl_core.specs.Tie.{TiesQueue, given_by}
-use Rattle.satl_step.specs.Runs.{AreCounted, IsDeep, KeepsDeepest, RunCutSoFar, RunSoFar, Stand, Tally, orders_in, requests_in, tally_of, unplugs_in}
+use Rattle.satl_step.specs.Runs.{AreCounted, IsDeep, KeepsDeepest, RunCutSoFar, RunSoFar, Stand, Tally, orders_behind_all, requests_in, tally_of, unplugs_in}
 use Rattle.satl_serve.specs.Headline.{IsServedToEnd, IsServedWhole, IsStopped}
 use Rattle.satl_serve.specs.Moments.{Moment, Spot, spot_at}
 use Rattle.satl_serve.specs.Runs.{IsFirstDevice, IsLeftAs, RanBefore, RanInPart, RanWhole, Serves}
@@ -66,8 +66,7 @@ module _ (s : Device) (old new : Tally) (same : new ≡ record old { calls = new
     faults = subst (λ n. RoseBy losses n b.tally.faults) (ap (λ (t : Tally). t.faults) same) c.faults;
     unplugged = subst (λ n. RoseBy (unplugs_in events) n b.tally.unplugs) (ap (λ (t : Tally). t.unplugs) same) c.unplugged;
     few_unplugs = let is = ap (λ (t : Tally). t.unplugs) same in omega (arith, is, c.few_unplugs);
-    ordered = subst (λ n. RoseBy (orders_in events) n b.tally.orders) (ap (λ (t : Tally). t.orders) same) c.ordered;
-    few_orders = let is = ap (λ (t : Tally). t.orders) same in omega (arith, is, c.few_orders);
+    orders = c.orders ∙ ap (λ (t : Tally). orders_behind_all events t.orders) same;
     few_calls = omega (arith, few, c.few_calls);
     queue = subst (λ t. KeepsDeepest (record t { calls = old.calls }) b.tally) same (record { rises = c.queue.rises; covers = c.queue.covers });
   }

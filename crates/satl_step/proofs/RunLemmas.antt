@@ -1,5 +1,5 @@
 -- A run that grows by one event.
-use Rattle.std.proofs.Common.{◌≡◌, ◌⊎◌, refl, sym, ap, subst, arith, ℕ, ◌+◌, ◌≤◌, max, inl, inr, Bool, true, false, List, [], ◌∷◌, ◌++◌, length}
+use Rattle.std.proofs.Common.{◌≡◌, ◌⊎◌, ◌∙◌, refl, sym, ap, subst, arith, ℕ, ◌+◌, ◌≤◌, max, inl, inr, Bool, true, false, List, [], ◌∷◌, ◌++◌, length}
 use Rattle.std.specs.Prelude.{if◌then◌else◌}
 use Rattle.satl_base.specs.declared.bench.BenchEvent.TheVariants as events
 use Rattle.satl_base.specs.Lists.{how_many}
@@ -10,12 +10,13 @@ use Rattle.satl_frame.specs.declared.frames.Frame.{Frame}
 use Rattle.satl_frame.specs.declared.frames.Frame.TheVariants as frames
 use Rattle.satl_frame.specs.Output.{Answer}
 use Rattle.satl_frame.specs.Pulls.{cut_to}
+use Rattle.satl_drive.specs.State.{Orders}
 use Rattle.satl_direct.specs.Device.{Device}
 use Rattle.satl_direct.specs.Run.{CutTurns, DoesInPart, DoesShort, losses_in}
 use Rattle.satl_direct.specs.Run.RunDeep.{start, next_event}
 use Rattle.satl_direct.proofs.Quieting.{quiet_none}
-use Rattle.satl_step.specs.Events.{Carried, IsTallied, IsWholeOf, orders_behind, unplugs_behind}
-use Rattle.satl_step.specs.Runs.{AreCounted, KeepsDeepest, RunCutSoFar, RunSoFar, Stand, is_manage, is_order, is_request, is_unplug}
+use Rattle.satl_step.specs.Events.{Carried, IsTallied, IsWholeOf, unplugs_behind}
+use Rattle.satl_step.specs.Runs.{AreCounted, KeepsDeepest, RunCutSoFar, RunSoFar, Stand, is_manage, is_request, is_unplug, orders_behind, orders_behind_all}
 use Rattle.satl_direct.specs.Run.DoesInPart.{does_all, does_some}
 use Rattle.satl_direct.specs.Run.RunInPart.{one_event_more}
 
@@ -62,13 +63,13 @@ unplugs_one event before = counts_one is_unplug event before (unplugs_behind eve
     is (frames.Bench events.Unplug) = refl
     is _ = refl
 
--- and it hands in order bytes so
-pub orders_one : (event : Frame) (before : ℕ) → Counts is_order (event ∷ []) before (orders_behind event before)
-orders_one event before = counts_one is_order event before (orders_behind event before) (is event)
-  where
-    is : (e : Frame) → orders_behind e before ≡ (if is_order e then next_count before else before)
-    is (frames.Bench (events.Order order)) = refl
-    is _ = refl
+orders_push : (events : List Frame) (event : Frame) (before : Orders) → orders_behind_all (events ++ event ∷ []) before ≡ orders_behind event (orders_behind_all events before)
+orders_push [] event before = refl
+orders_push (e ∷ events) event before = orders_push events event (orders_behind e before)
+
+-- an account has the bytes of one event more
+pub orders_more : (events : List Frame) (event : Frame) (before mid now : Orders) → mid ≡ orders_behind_all events before → now ≡ orders_behind event mid → now ≡ orders_behind_all (events ++ event ∷ []) before
+orders_more events event before mid now first one = one ∙ (ap (orders_behind event) first ∙ sym (orders_push events event before))
 
 -- what covered the queue before covers it
 pub covers_same : (a : Stand) → KeepsDeepest a.tally a.tally
@@ -82,13 +83,11 @@ counted_more : (events : List Frame) (losses : ℕ) (before a b : Stand) (event 
 counted_more events losses before a b event whole counted is tallied =
     let x = tallied_whole is.room a b event whole is.cut tallied in
     let u = counts_more is_unplug events whole before.tally.unplugs a.tally.unplugs b.tally.unplugs (record { rose = counted.unplugged; few = counted.few_unplugs }) (subst (Counts is_unplug (whole ∷ []) a.tally.unplugs) (sym x.unplugs) (unplugs_one whole a.tally.unplugs)) in
-    let o = counts_more is_order events whole before.tally.orders a.tally.orders b.tally.orders (record { rose = counted.ordered; few = counted.few_orders }) (subst (Counts is_order (whole ∷ []) a.tally.orders) (sym x.orders) (orders_one whole a.tally.orders)) in
     record {
       faults = RoseBy-more losses (losses_in whole a.device b.device) before.tally.faults a.tally.faults b.tally.faults counted.faults x.faults;
       unplugged = u.rose;
       few_unplugs = u.few;
-      ordered = o.rose;
-      few_orders = o.few;
+      orders = orders_more events whole before.tally.orders a.tally.orders b.tally.orders counted.orders x.orders;
       few_calls = omega (arith, counted.few_calls, x.calls, how_many-push is_request events whole, how_many-push is_manage events whole);
       queue = covers_more before a b counted.queue x.queue;
     }
@@ -105,8 +104,7 @@ run_start a idle = record {
     faults = RoseBy-none a.tally.faults;
     unplugged = RoseBy-none a.tally.unplugs;
     few_unplugs = omega arith;
-    ordered = RoseBy-none a.tally.orders;
-    few_orders = omega arith;
+    orders = refl;
     few_calls = let none = ap length idle in omega (arith, none);
     queue = covers_same a;
   };

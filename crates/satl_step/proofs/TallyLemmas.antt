@@ -12,8 +12,8 @@ use Rattle.satl_core.specs.Layer.{IsUsed, Layer, Tied, view}
 use Rattle.satl_core.specs.Turning.{turn_calls}
 use Rattle.satl_core.proofs.AgreeingLemmas.{agrees_by}
 use Rattle.satl_core.proofs.CountedLemmas.{counted_more, counted_same, tasks_seen}
-use Rattle.satl_step.specs.Events.{IsTallied, orders_behind, unplugs_behind}
-use Rattle.satl_step.specs.Runs.{Stand, calls_allowed, stand_of}
+use Rattle.satl_step.specs.Events.{IsTallied, unplugs_behind}
+use Rattle.satl_step.specs.Runs.{Stand, calls_allowed, orders_behind, stand_of}
 use Rattle.satl_step.proofs.RunLemmas.{covers_more, covers_same}
 
 -- ---- the layer and free pages

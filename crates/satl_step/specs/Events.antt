@@ -9,11 +9,11 @@ use Rattle.satl_frame.specs.Output.Answer.{replied}
 use Rattle.satl_frame.specs.Pulls.{cut_to}
 use Rattle.satl_drive.specs.State.{DriveState}
 use Rattle.satl_direct.specs.Run.{Does, DoesShort, TurnsOf, losses_in}
-use Rattle.satl_core.specs.Benching.{orders_after, unplugs_after}
+use Rattle.satl_core.specs.Benching.{unplugs_after}
 use Rattle.satl_core.specs.Layer.{Layer}
 use Rattle.satl_core.specs.Submitting.{CanSubmit}
 use Rattle.satl_core.specs.Turning.{turn_calls}
-use Rattle.satl_step.specs.Runs.{IsDeep, KeepsDeepest, Stand, calls_allowed, stand_of}
+use Rattle.satl_step.specs.Runs.{IsDeep, KeepsDeepest, Stand, calls_allowed, orders_behind, stand_of}
 use Rattle.satl_step.specs.Telling.{IsTold, IsToldInPart, Telling}
 
 -- where a run stands, and who tells its answers (profile)
@@ -49,12 +49,7 @@ abbrev pub unplugs_behind : Frame → ℕ → ℕ
 unplugs_behind (frames.Bench event) before = unplugs_after event before
 unplugs_behind _ before = before
 
--- how often order bytes were handed in to the drive behind an event (profile)
-abbrev pub orders_behind : Frame → ℕ → ℕ
-orders_behind (frames.Bench event) before = orders_after event before
-orders_behind _ before = before
-
--- an event raised the count of faults by its losses; the drive was unplugged, and order bytes were handed in, by it alone; and
+-- an event raised the count of faults by its losses; the drive was unplugged by it alone, and took its order bytes alone; and
 -- the drive was called as often at most as it allows, and a turn for each task that is gone; its deepest queue did not fall
 -- (profile)
 pub record IsTallied (event : Frame) (before after : Stand) : Type 0 where

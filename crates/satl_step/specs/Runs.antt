@@ -1,5 +1,5 @@
 -- Runs as far as they came, and what was counted meanwhile (profile).
-use Rattle.std.specs.Prelude.{ℕ, ◌+◌, ◌*◌, ◌≤◌, Bool, true, false, List, length}
+use Rattle.std.specs.Prelude.{ℕ, ◌+◌, ◌*◌, ◌≡◌, ◌≤◌, Bool, true, false, List, [], ◌∷◌, length}
 use Rattle.satl_base.specs.declared.bench.BenchEvent.{BenchEvent}
 use Rattle.satl_base.specs.declared.bench.BenchEvent.TheVariants as events
 use Rattle.satl_base.specs.Lists.{how_many}
@@ -7,18 +7,19 @@ use Rattle.satl_io.specs.Causes.{RoseBy}
 use Rattle.satl_frame.specs.declared.frames.Frame.{Frame}
 use Rattle.satl_frame.specs.declared.frames.Frame.TheVariants as frames
 use Rattle.satl_frame.specs.Output.{Answer}
-use Rattle.satl_drive.specs.State.{DriveState}
+use Rattle.satl_drive.specs.State.{DriveState, Orders}
 use Rattle.satl_direct.specs.Device.{Device}
 use Rattle.satl_direct.specs.Run.{RunDeep, RunInPart}
+use Rattle.satl_core.specs.Benching.{orders_after}
 use Rattle.satl_core.specs.Layer.{Layer, view}
 use Rattle.satl_core.specs.Turning.{off_calls, turn_calls}
 
--- what was counted so far: a drive's faults, how often it was unplugged, how often order bytes were handed in to it, the
--- commands that it has, the most that it had at once, and how often it was called (profile)
+-- what was counted so far: a drive's faults, how often it was unplugged, its account of order bytes, the commands that it has,
+-- the most that it had at once, and how often it was called (profile)
 pub record Tally : Type 0 where
   pub faults : ℕ
   pub unplugs : ℕ
-  pub orders : ℕ
+  pub orders : Orders
   pub outstanding : ℕ
   pub deepest : ℕ
   pub calls : ℕ
@@ -86,30 +87,25 @@ is_unplug _ = false
 abbrev pub unplugs_in : List Frame → ℕ
 unplugs_in events = how_many is_unplug events
 
--- whether a bench event hands in order bytes (profile)
-abbrev pub hands_in : BenchEvent → Bool
-hands_in (events.Order order) = true
-hands_in _ = false
+-- a drive's account of order bytes behind an event (profile)
+abbrev pub orders_behind : Frame → Orders → Orders
+orders_behind (frames.Bench event) before = orders_after event before
+orders_behind _ before = before
 
--- whether an event hands in order bytes (profile)
-abbrev pub is_order : Frame → Bool
-is_order (frames.Bench event) = hands_in event
-is_order _ = false
-
--- how many of the events hand in order bytes (profile)
-abbrev pub orders_in : List Frame → ℕ
-orders_in events = how_many is_order events
+-- the same behind events (profile)
+abbrev pub orders_behind_all : List Frame → Orders → Orders
+orders_behind_all [] before = before
+orders_behind_all (event ∷ events) before = orders_behind_all events (orders_behind event before)
 
 -- events with so many losses were counted: the drive's count of faults rose by the losses at least, or stands at its last
--- value; its number of unplugs rose by the events that unplug it, and its number of orders by the events that hand in order
--- bytes, or it stands at its last value; and it was called as often at most as the events allow, but for the turns of the tasks
--- that are left; its deepest queue did not fall (profile)
+-- value; its number of unplugs rose by the events that unplug it, or stands at its last value; its account of order bytes has
+-- those of the events behind, each event's as one piece, and no others; and it was called as often at most as the events allow,
+-- but for the turns of the tasks that are left; its deepest queue did not fall (profile)
 pub record AreCounted (events : List Frame) (losses : ℕ) (before after : Stand) : Type 0 where
   pub faults : RoseBy losses before.tally.faults after.tally.faults
   pub unplugged : RoseBy (unplugs_in events) before.tally.unplugs after.tally.unplugs
   pub few_unplugs : after.tally.unplugs ≤ before.tally.unplugs + unplugs_in events
-  pub ordered : RoseBy (orders_in events) before.tally.orders after.tally.orders
-  pub few_orders : after.tally.orders ≤ before.tally.orders + orders_in events
+  pub orders : after.tally.orders ≡ orders_behind_all events before.tally.orders
   pub few_calls : after.tally.calls + turn_calls * length after.device.tasks ≤ before.tally.calls + calls_allowed events
   pub queue : KeepsDeepest before.tally after.tally
 
