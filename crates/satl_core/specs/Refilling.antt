@@ -43,8 +43,8 @@ pub record Answers (Step : List Reply → Type 0) (old new : List Reply) : Type 
   pub behind : new ≡ old ++ more
   pub step : Step more
 
--- what a call leaves of the drive's counts: the count of faults rose by each loss of the link, the numbers of unplugs and of
--- orders stay, and the deepest queue does not fall (profile)
+-- what a call leaves of the drive's counts: the count of faults rose by each loss of the link, the number of unplugs and the
+-- account of order bytes stay, and the deepest queue does not fall (profile)
 pub record AreKept (old : Layer) (d : DriveState) (new : Layer) (d' : DriveState) : Type 0 where
   pub losses : RoseBy (losses_of (view old d) (view new d')) d.faults d'.faults
   pub unplugs : d'.unplugs ≡ d.unplugs
