@@ -486,7 +486,7 @@ impl Satl {
         ensures out { self.new.out + length pages ≡ self.old.out }
     {
         let pages = self.queue.exchange(pages);
-        self.pool.give_room(pages);
+        self.pool.give(pages);
     }
 }
 
