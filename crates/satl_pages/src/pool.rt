@@ -13,7 +13,9 @@ use std::marker::Model;
 pub struct Pool {
     // What came back, each in one piece: who takes as many pages as the last has gets it without a walk along them.
     pieces: ArrayVec<Pages, 64>,
-    // All other free pages: those that never went out, and those that found no room among the pieces.
+    // The same of rooms, which mostly come back as they went out: so pages that were written just now stay with those who write.
+    rooms: ArrayVec<Pages, 64>,
+    // All other free pages: those that never went out, and those that found no place among the pieces.
     others: Pages,
     free: u32,
     number: u32,
@@ -27,7 +29,7 @@ impl Model for Pool {
 
     ghost view = { λ p. record { free = p.free; out = p.number - p.free } };
 
-    ghost invariant = { λ p. (pages_in p.pieces.items + length p.others ≡ p.free) × (p.free ≤ p.number) × (p.number < 2 ^ 32) };
+    ghost invariant = { λ p. (pages_in p.pieces.items + pages_in p.rooms.items + length p.others ≡ p.free) × (p.free ≤ p.number) × (p.number < 2 ^ 32) };
 }
 
 impl Pool {
@@ -38,6 +40,7 @@ impl Pool {
     {
         Ok(Pool {
             pieces: ArrayVec::new(),
+            rooms: ArrayVec::new(),
             others: Pages::zeroed(alloc, n)?,
             free: n,
             number: n,
@@ -77,6 +80,7 @@ impl Pool {
         }
         if self.others.blocks() < n {
             join(&mut self.pieces, &mut self.others);
+            join(&mut self.rooms, &mut self.others);
         }
         Some(take_first(&mut self.others, n))
     }
@@ -89,23 +93,55 @@ impl Pool {
         ensures none_lost { number_of self.new ≡ number_of self.old }
     {
         if pages.blocks() > 0 {
-            self.put_back(pages);
+            self.free += pages.blocks();
+            put_back(pages, &mut self.pieces, &mut self.others);
         }
     }
 
-    /// What `give` does where there are pages. Apart from it, so that it is short where there are none, as is often so.
-    #[inline(never)]
-    fn put_back(&mut self, pages: Pages)
+    /// Takes `n` pages as `take` does, as the room of data that come later: mostly what came back last by `give_room` (profile).
+    pub fn take_room(&mut self, n: u32) -> Option<Pages>
+        ensures fewer { IsNone result ↔ (self.old.free < n) }
+        ensures none { IfNone result (self.new ≡ self.old) }
+
+        ensures pages { IfSome result (λ pages. length pages ≡ n) }
+        ensures free { OnSome result (self.new.free + n ≡ self.old.free) }
+        ensures out { OnSome result (self.new.out ≡ self.old.out + n) }
+        ensures none_lost { number_of self.new ≡ number_of self.old }
+    {
+        match take_piece(&mut self.rooms, n) {
+            Some(room) => {
+                self.free -= n;
+                Some(room)
+            }
+            None => self.take(n),
+        }
+    }
+
+    /// Takes pages back as `give` does, which were the room of data (profile).
+    pub fn give_room(&mut self, pages: Pages)
         requires { length pages ≤ self.old.out }
         ensures free { self.new.free ≡ self.old.free + length pages }
         ensures out { self.new.out + length pages ≡ self.old.out }
+        ensures none_lost { number_of self.new ≡ number_of self.old }
     {
-        self.free += pages.blocks();
-        if self.pieces.is_full() {
-            put_by(pages, &mut self.others);
-        } else {
-            self.pieces.push(pages);
+        if pages.blocks() > 0 {
+            self.free += pages.blocks();
+            put_back(pages, &mut self.rooms, &mut self.others);
         }
+    }
+}
+
+/// Puts pages among the pieces, or before the others where there is no place. Apart from its callers, so that these are short
+/// where there are no pages, as is often so.
+#[inline(never)]
+fn put_back(pages: Pages, pieces: &mut ArrayVec<Pages, 64>, others: &mut Pages)
+    requires { length pages + length others.old < 2 ^ 32 }
+    ensures { pages_in pieces.new.items + length others.new ≡ pages_in pieces.old.items + length others.old + length pages }
+{
+    if pieces.is_full() {
+        put_by(pages, others);
+    } else {
+        pieces.push(pages);
     }
 }
 
@@ -176,6 +212,7 @@ impl Lender for Pool {
 #[cfg(test)]
 mod tests {
     use super::*;
+    use satl_base::Block;
     use std::test::Fail;
 
     #[test]
@@ -208,6 +245,23 @@ mod tests {
         assert_eq!(rt; pool.take(3).expect(&rt, "the last piece").blocks(), 3);
         assert_eq!(rt; pool.take(3).expect(&rt, "all others").blocks(), 3);
         assert!(rt; pool.take(1).is_none());
+        Ok(())
+    }
+
+    #[test]
+    fn rooms_that_came_back(rt: HostRuntime) -> Result<(), Fail> {
+        let mut pool = Pool::new(rt.alloc(), 4)?;
+        let mut room = pool.take_room(2).expect(&rt, "two pages");
+        room.set_block(0, &Block { bytes: [7; 512] });
+        pool.give_room(room);
+        // Others than the room, then the room, and then none is left.
+        assert_eq!(rt; pool.take(2).expect(&rt, "others").block(0).bytes[0], 0);
+        let room = pool.take_room(2).expect(&rt, "the room");
+        assert_eq!(rt; room.block(0).bytes[0], 7);
+        assert!(rt; pool.take_room(1).is_none());
+        pool.give_room(room);
+        // Where no other page is free, pages of a room go out one by one.
+        assert_eq!(rt; pool.take(1).expect(&rt, "a page of the room").blocks(), 1);
         Ok(())
     }
 }
