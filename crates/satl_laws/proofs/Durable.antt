@@ -21,10 +21,11 @@ use Rattle.satl_laws.proofs.Arrivals.{IsFor, code_for}
 use Rattle.satl_laws.proofs.Ends.{ends_leaves}
 use Rattle.satl_laws.proofs.Kept.{at_now}
 use Rattle.satl_laws.proofs.Coming.{WritesItsOwn}
-use Rattle.satl_laws.proofs.Runs.{none_writes, run_keeps}
-use Rattle.satl_laws.proofs.Sparing.{Keeps, NoneWrites, SparesAt, keeps_none, keeps_on, loss_keeps, none_still, quiet_alike, quiet_keeps, turns_keep}
+use Rattle.satl_laws.proofs.Runs.{none_writes, run_endures, run_keeps}
+use Rattle.satl_laws.proofs.Sparing.{Keeps, NoneWrites, keeps_none, keeps_on, loss_keeps, none_still, quiet_alike, quiet_keeps, turns_keep}
 use Rattle.satl_laws.proofs.PowerLoss.{power_keeps}
 use Rattle.satl_laws.proofs.Securing.{secured}
+use Rattle.satl_laws.proofs.Singles.{IsSingle}
 
 -- a task that a request became writes its own data-out alone
 come_own : (identity : Identity) (t : Entry) → HasCome identity t → WritesItsOwn t.command
@@ -39,10 +40,6 @@ pub untouched : (first last : Device) (all : List Frame) (groups : List (List An
     IsValid first → WithoutPower all → SparedThrough x run → now_at last.cells x ≡ now_at first.cells x
 untouched first last all groups losses deep run x valid calm spared = at_now x first.cells last.cells (run_keeps x run calm spared (all_own first valid)).cells
 
--- so do tasks none of which writes a sector
-own_of : (x : ℕ) (s : Device) → NoneWrites x s → AllByRecursion (λ t. WritesItsOwn t.command) s.tasks
-own_of x s h = All-weaken (SparesAt x s) (λ t. WritesItsOwn t.command) (λ t k. k.own) s.tasks h.each
-
 -- likeness goes both ways
 alike_back : (s u : Device) → Alike s u → Alike u s
 alike_back s u a = record { identity = sym a.identity; size = sym a.size }
@@ -52,15 +49,14 @@ going_keeps : (x : ℕ) (begin going : Device) (lost : List Reply) → ((going �
 going_keeps x begin going lost (inl same) h = subst (λ d. Keeps x begin d) (sym same) (keeps_none x begin h)
 going_keeps x begin going lost (inr l) h = loss_keeps x begin going (ap (λ d. d.cells) l.stays) (ap (λ d. d.identity) l.stays) (ap (λ d. d.tasks) l.stays)
 
--- from the end of a task up to a loss of power
-span_keeps : (x : ℕ) (mid after : Device) → AllByRecursion (λ t. WritesItsOwn t.command) mid.tasks → (span : IsSpan x mid after) → Keeps x mid span.last
-span_keeps x mid after own span =
+-- from the end of a task that made a sector single up to the last loss of power
+span_keeps : (x : ℕ) (mid after : Device) → IsSingle x mid.cells → AllByRecursion (λ t. WritesItsOwn t.command) mid.tasks → (span : IsSpan x mid after) → Keeps x mid span.last
+span_keeps x mid after single own span =
     let same : (span.begin).tasks ≡ mid.tasks = quiet_tasks mid span.begin span.quiet in
     let begin : NoneWrites x span.begin = none_writes x span.begin span.none (subst (AllByRecursion (λ t. WritesItsOwn t.command)) (sym same) own) in
     let here : NoneWrites x mid = none_still x span.begin mid (span.begin).tasks (alike_back mid span.begin (quiet_alike x mid span.begin span.quiet)) (sym same) begin.each in
-    keeps_on x mid span.mid span.last
+    run_endures x mid single span.run span.spared
     (keeps_on x mid span.going span.mid (keeps_on x mid span.begin span.going (quiet_keeps x mid span.begin span.quiet here) (going_keeps x span.begin span.going span.lost span.loss)) (turns_keep x span.turns))
-    (λ h. run_keeps x span.run span.no_power span.spared (own_of x span.mid h))
 
 -- the law of durable sectors
 pub durable : (x : ℕ) (s mid after : Device) (t : Entry) (reply : Reply) →
@@ -70,5 +66,5 @@ durable x s mid after t reply valid ends good secure span =
     let own : AllByRecursion (λ u. WritesItsOwn u.command) mid.tasks =
     subst (AllByRecursion (λ u. WritesItsOwn u.command)) (sym l.tasks)
     (All-remove_first (λ u. WritesItsOwn u.command) (is_called t.nexus (t.tag).0) s.tasks (all_own s valid)) in
-    let kept = span_keeps x mid after own span in
-    power_keeps x mid span.last after span.answers (secured x s mid t reply good secure ends) kept span.power
+    let single = secured x s mid t reply good secure ends in
+    at_now x mid.cells after.cells (power_keeps x mid span.last after span.answers single (span_keeps x mid after single own span) span.power).cells

@@ -10,6 +10,7 @@ pub mod Cases
 pub mod Clashing
 pub mod Coming
 pub mod Counts
+pub mod CutShort
 pub mod Durable
 pub mod Eligibles
 pub mod Ends

@@ -31,7 +31,7 @@ use Rattle.satl_laws.proofs.GoodTurns.{GoodTurn, done_by, good_turn, may_still}
 flush_then_power : (flush : Request) (cell b : Cell) (s mid last : Device) (said : List Reply) (reply : Reply) → GoodTurn (at_work cell b (flushes_all_sectors flush ∷ []) s) mid reply → reply.status ≡ Good
     → Around (Happens bench.Power) mid said last → now_at last.cells 0 ≡ Some cell.now
 flush_then_power flush cell b s mid last said reply turn good power =
-    power_keeps 0 (turn.good).mid mid last said single after power
+    at_now 0 (turn.good).mid.cells last.cells (power_keeps 0 (turn.good).mid mid last said single after power).cells
     ∙ at_now 0 turn.before.cells (turn.good).mid.cells (one_keeps 0 turn.before (turn.good).mid reply (turn.good).one begun.none_writes).cells
     ∙ at_now 0 (at_work cell b (flushes_all_sectors flush ∷ []) s).cells turn.before.cells begun.cells
   where

@@ -2,6 +2,7 @@
 use Rattle.std.proofs.Common.{◌≡◌, refl, sym, ap, ◌∙◌, subst, ℕ, false, List, [], ◌∷◌, ◌++◌}
 use Rattle.std.proofs.lemmas.List.{same_from_push}
 use Rattle.std.specs.List.{AllByRecursion}
+use Rattle.satl_base.specs.declared.bench.BenchEvent.TheVariants as bench
 use Rattle.satl_base.specs.declared.request.Request.{Request}
 use Rattle.satl_frame.specs.declared.frames.Frame.{Frame}
 use Rattle.satl_frame.specs.declared.frames.Frame.TheVariants as frames
@@ -16,8 +17,10 @@ use Rattle.satl_direct.proofs.Quieting.{joined-push}
 use Rattle.satl_laws.specs.Untouched.{SparedBy, SparedByNew, SparedIn, SparedThrough, Spares, WithoutPower, is_power}
 use Rattle.satl_laws.proofs.Arrivals.{IsFor, arrival_for}
 use Rattle.satl_laws.proofs.Coming.{WritesItsOwn}
+use Rattle.satl_laws.proofs.PowerLoss.{power_keeps}
 use Rattle.satl_laws.proofs.QuietArrivals.{arrival_quiet}
 use Rattle.satl_laws.proofs.Rows.{all_at, all_front, all_from}
+use Rattle.satl_laws.proofs.Singles.{IsSingle}
 use Rattle.satl_laws.proofs.Sparing.{Keeps, NoneWrites, SparesAt, keeps_on, quiet_alike, quiet_keeps, spares_alike}
 use Rattle.satl_laws.proofs.SparingEvents.{NoneComes, NoneComesBy, does_keep}
 
@@ -113,3 +116,15 @@ module _ (x : ℕ) where
   run_keeps {first = first} {last = last} (next_event {events = events} {s = s} event now d so_far does) calm spared own =
       keeps_on x first s last (run_keeps so_far (all_front (λ f. is_power f ≡ false) events [] event calm) spared.0 own)
       (does_keep x event s last now d (all_at (λ f. is_power f ≡ false) events [] event calm) (none_comes_by event s spared.1) does)
+
+  module _ (a : Device) (single : IsSingle x a.cells) where
+    -- a sector that was single is kept in each event, be it a loss of power
+    event_endures : (event : Frame) (s new : Device) (now : List Answer) (d : ℕ) → SparedIn x event s → Does event s now new d → Keeps x a s → Keeps x a new
+    event_endures (frames.Bench bench.Power) s new now d comes does kept = power_keeps x a s new does.0 single kept does.2
+    event_endures event s new now d comes does kept = keeps_on x a s new kept (does_keep x event s new now d refl (none_comes_by event s comes) does)
+
+    -- and in a run, wherever power is lost in it
+    pub run_endures : {first last : Device} {all : List Frame} {groups : List (List Answer)} {losses deep : ℕ} (run : RunDeep first all groups losses last deep)
+        → SparedThrough x run → Keeps x a first → Keeps x a last
+    run_endures {first = first} {last = last} (start quiet) spared kept = keeps_on x a first last kept (quiet_keeps x first last quiet)
+    run_endures {last = last} (next_event {s = s} event now d so_far does) spared kept = event_endures event s last now d spared.1 does (run_endures so_far spared.0 kept)

@@ -16,7 +16,7 @@ use Rattle.satl_direct.specs.Valid.{IsValid}
 use Rattle.satl_direct.specs.Quiet.{Around, Quiet, writes}
 use Rattle.satl_direct.specs.Run.{RunDeep, TurnsOf}
 use Rattle.satl_direct.specs.Turn.{TurnLoss}
-use Rattle.satl_laws.specs.Untouched.{SparedBy, SparedThrough, WithoutPower, now_at}
+use Rattle.satl_laws.specs.Untouched.{SparedBy, SparedThrough, now_at}
 
 -- a command of a task that leaves nothing of a sector to a loss of power when it ends with GOOD: SYNCHRONIZE CACHE, START STOP
 -- UNIT that stops and flushes, MODE SELECT that turns WCE off, or a WRITE of the sector past the cache (SBC-3 4.15)
@@ -27,7 +27,8 @@ secures (commands.Write form lba count fua) s t x = list_any (λ p. (p.lba == x)
 secures (commands.Flush form lba count) s t x = true
 secures _ s t x = false
 
--- from a device on: the turns that are left of an event, a run, and then a loss of power; no task writes the sector (profile)
+-- from a device on: the turns that are left of an event, a run, in which power may be lost too, and then a loss of power; no
+-- task writes the sector (profile)
 pub record IsSpan (x : ℕ) (s after : Device) : Type 0 where
   pub begin : Device
   pub mid : Device
@@ -46,13 +47,12 @@ pub record IsSpan (x : ℕ) (s after : Device) : Type 0 where
   pub losses : ℕ
   pub depth : ℕ
   pub run : RunDeep mid all groups losses last depth
-  pub no_power : WithoutPower all
   pub spared : SparedThrough x run
   pub answers : List Reply
   pub power : Around (Happens events.Power) last answers after
 
 -- law of durable sectors: once a task that secures a sector has ended with GOOD, and no task writes it up to a loss of power,
--- it has after that the block that it had at the end of the task (SBC-3 4.15)
+-- be it the next or a later one, it has after that the block that it had at the end of the task (SBC-3 4.15)
 abbrev pub Durable : Type 0
 Durable = (x : ℕ) (s mid after : Device) (t : Entry) (reply : Reply) →
     IsValid s → Ends s t reply mid → reply.status ≡ Good → secures t.command s t x ≡ true → IsSpan x mid after

@@ -1,4 +1,5 @@
 pub mod ArrivalOrder
+pub mod CutShort
 pub mod Durable
 pub mod OnceEach
 pub mod OneReplyEach

@@ -1,5 +1,6 @@
 //! Laws of all runs of the device.
 ghost use Rattle.satl_laws.specs.ArrivalOrder.{ArrivalOrder};
+ghost use Rattle.satl_laws.specs.CutShort.{CutShortIsARun};
 ghost use Rattle.satl_laws.specs.Durable.{Durable};
 ghost use Rattle.satl_laws.specs.OnceEach.{OnceEach};
 ghost use Rattle.satl_laws.specs.OrderUnderErrors.{OrderUnderErrors};
@@ -13,7 +14,8 @@ pub fn each_request_is_answered_once()
 {}
 
 /// Law of durable sectors: of a valid device, once a task that secures a sector has ended with GOOD, and no task writes the
-/// sector up to a loss of power, it has after that the block that it had at the end of the task (SBC-3 4.15).
+/// sector up to a loss of power, be it the next or a later one, it has after that the block that it had at the end of the task
+/// (SBC-3 4.15).
 pub fn secured_sectors_endure_a_loss_of_power()
     ensures { Durable }
 {}
@@ -50,4 +52,11 @@ pub fn no_task_passes_one_that_it_overlaps()
     ensures early { NoneShows }
     ensures early_alone { NoneShowsAlone }
     ensures others { OthersPass }
+{}
+
+/// Law of runs cut short: a run whose last event was cut short behind one of its turns is a run in which a TURN of as many
+/// turns as were taken stands in place of that event, with the same answers, losses and last device. So each law of runs holds
+/// of a run that ends in part, as of what was done of its events (profile).
+pub fn a_run_cut_short_is_a_run()
+    ensures { CutShortIsARun }
 {}

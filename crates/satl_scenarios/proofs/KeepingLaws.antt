@@ -3,7 +3,7 @@ use Rattle.std.proofs.Common.{inl, inr, refl, arith, ℕ, ◌+◌, max, List, []
 use Rattle.satl_base.specs.declared.bench.BenchEvent.TheVariants as bench
 use Rattle.satl_cdb.specs.Table.{says}
 use Rattle.satl_frame.specs.declared.frames.Frame.{Frame}
-use Rattle.satl_frame.specs.declared.frames.Frame.TheVariants.{Turn}
+use Rattle.satl_frame.specs.declared.frames.Frame.TheVariants.{Bench, Turn}
 use Rattle.satl_frame.specs.Output.{Answer}
 use Rattle.satl_line.specs.Conflict.{accesses_conflict}
 use Rattle.satl_direct.specs.Bench.{Happens}
@@ -26,7 +26,7 @@ use Rattle.satl_scenarios.specs.Scenario.{answered, events_of, groups_of, silent
 use Rattle.satl_scenarios.proofs.Building.{Occurs, arrives, happens}
 use Rattle.satl_scenarios.proofs.Endings.{carried_out}
 use Rattle.satl_scenarios.proofs.FlawRuns.{both_written, high_write, low_write, middle_read, struck, struck_with, three_end}
-use Rattle.satl_scenarios.proofs.PowerRuns.{elsewhere_arrives, elsewhere_ends, flush_task, kept, power_takes_it, written_elsewhere}
+use Rattle.satl_scenarios.proofs.PowerRuns.{elsewhere_arrives, elsewhere_ends, flush_task, kept, power_again, power_takes_it}
 use Rattle.satl_scenarios.proofs.Validity.{blank_real, blank_valid}
 
 -- a run in which no task writes a sector
@@ -85,9 +85,14 @@ flush_valid = record {
   attentions = (tt, (tt, (tt, (tt, tt))));
 }
 
-beside_it : SparedRun 0 kept (write_10 2 1 (bb ∷ []) ∷ Turn 1 ∷ []) ([] ∷ (good 2 [] ∷ []) ∷ []) 0 written_elsewhere 1
+beside_it : SparedRun 0 kept (write_10 2 1 (bb ∷ []) ∷ Turn 1 ∷ Bench bench.Power ∷ []) ([] ∷ (good 2 [] ∷ []) ∷ [] ∷ []) 0 flushed_then_written_elsewhere.last 1
 unfolding says
-beside_it = goes_on (goes_on (begins 0 kept tt) elsewhere_arrives refl (refl, tt)) elsewhere_ends tt tt
+beside_it =
+    goes_on
+    (goes_on
+    (goes_on (begins 0 kept tt) elsewhere_arrives refl (refl, tt))
+    elsewhere_ends tt tt)
+    (happens [] flushed_then_written_elsewhere.last power_takes_it) tt tt
 
 pub of_durable : IsOfDurable flushed_then_written_elsewhere 0
 of_durable = record {
@@ -101,7 +106,7 @@ of_durable = record {
   span = record {
     begin = kept;
     mid = kept;
-    last = written_elsewhere;
+    last = flushed_then_written_elsewhere.last;
     quiet = quiet_none kept;
     none = tt;
     lost = [];
@@ -111,17 +116,16 @@ of_durable = record {
     replies = [];
     deep = 0;
     turns = none;
-    all = write_10 2 1 (bb ∷ []) ∷ Turn 1 ∷ [];
-    groups = [] ∷ (good 2 [] ∷ []) ∷ [];
+    all = write_10 2 1 (bb ∷ []) ∷ Turn 1 ∷ Bench bench.Power ∷ [];
+    groups = [] ∷ (good 2 [] ∷ []) ∷ [] ∷ [];
     losses = 0;
     depth = 1;
     run = beside_it.run;
-    no_power = (refl, (refl, tt));
     spared = beside_it.spared;
     answers = [];
-    power = around_alone (Happens bench.Power) written_elsewhere flushed_then_written_elsewhere.last [] power_takes_it;
+    power = around_alone (Happens bench.Power) flushed_then_written_elsewhere.last flushed_then_written_elsewhere.last [] power_again;
   };
-  between = silent (write_10 2 1 (bb ∷ [])) ∷ answered (Turn 1) (good 2 [] ∷ []) ∷ [];
+  between = silent (write_10 2 1 (bb ∷ [])) ∷ answered (Turn 1) (good 2 [] ∷ []) ∷ silent (Bench bench.Power) ∷ [];
   steps = refl;
   events = refl;
 }

@@ -98,6 +98,10 @@ elsewhere_ends = one_turn written_elsewhere (ended write_elsewhere (inl refl) (d
 pub power_takes_it : IsPowered written_elsewhere [] flushed_then_written_elsewhere.last
 power_takes_it = record { none = refl; cells = (left_with (lasts aa) aa (inl refl), (left_with (cached_over zeros bb) zeros (inl refl), tt)); stays = refl }
 
+-- and so does another
+pub power_again : IsPowered flushed_then_written_elsewhere.last [] flushed_then_written_elsewhere.last
+power_again = record { none = refl; cells = (left_with (lasts aa) aa (inl refl), (left_with (lasts zeros) zeros (inl refl), tt)); stays = refl }
+
 pub flush_keeps_beside_a_write : CanHappen flushed_then_written_elsewhere
 flush_keeps_beside_a_write =
     it_can_happen flushed_then_written_elsewhere
@@ -105,7 +109,8 @@ flush_keeps_beside_a_write =
     (next elsewhere_arrives
     (next elsewhere_ends
     (next (happens [] flushed_then_written_elsewhere.last power_takes_it)
-    ends_here))))
+    (next (happens [] flushed_then_written_elsewhere.last power_again)
+    ends_here)))))
 
 -- ---- the cache is turned off
 

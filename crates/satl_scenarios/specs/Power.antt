@@ -46,7 +46,8 @@ flushed_then_written left = record {
   last = just_powered (lasts left ∷ lasts zeros ∷ []);
 }
 
--- the cache is written back, and another sector is written: power takes that block alone (SBC-3 4.15)
+-- the cache is written back, and another sector is written: power takes that block alone, and nothing when it is lost once
+-- more (SBC-3 4.15)
 abbrev pub flushed_then_written_elsewhere : Scenario
 flushed_then_written_elsewhere = record {
   first = cached_with flush [];
@@ -54,6 +55,7 @@ flushed_then_written_elsewhere = record {
       answered (Turn 1) (good 1 [] ∷ [])
       ∷ silent (write_10 2 1 (bb ∷ []))
       ∷ answered (Turn 1) (good 2 [] ∷ [])
+      ∷ silent (Bench bench.Power)
       ∷ silent (Bench bench.Power)
       ∷ [];
   losses = 0;

@@ -20,8 +20,8 @@ pub fn power_after_a_flush_and_a_write_that_is_lost()
     ensures { CanHappen (flushed_then_written aa) }
 {}
 
-/// Where another sector is written after the flush, what was flushed outlives the power all the same; the law of durable
-/// sectors speaks of it (SBC-3 4.15).
+/// Where another sector is written after the flush, what was flushed outlives the power all the same, also when it is lost
+/// once more; the law of durable sectors speaks of it (SBC-3 4.15).
 pub fn power_after_a_flush_and_a_write_elsewhere()
     ensures run { CanHappen flushed_then_written_elsewhere }
     ensures law { IsOfDurable flushed_then_written_elsewhere 0 }
