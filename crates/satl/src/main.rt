@@ -5,22 +5,22 @@
 //! standard output.
 #![tactic(auto)]
 
-ghost use Rattle.std.specs.Prelude.{◌≡◌, IfOk, map, vec_len};
+ghost use Rattle.std.specs.Prelude.{◌≡◌, ◌<◌, IfOk, map, vec_len};
 ghost use Rattle.std.specs.List.{AllByRecursion};
 ghost use Rattle.satl_disk.specs.Disk.{state_of};
 ghost use Rattle.satl_barrier.specs.Leaving.{IsFree};
 
-use satl_base::NoMemory;
+use satl_base::{NoMemory, Steps};
 use satl_disk::ModelDrive;
 use satl_io::{BufferedSource, StdSink};
-use satl_top::{Status, counted_program};
+use satl_top::{Status, program};
 use std::alloc::Global;
 use std::env;
 use std::io::{BufReader, ErrorKind};
 use std::marker::Brand;
 use std::process::ExitCode;
 use std::rc::RcStr;
-use std::sync::ledger::Blank;
+use std::sync::ledger::{Blank, Ledger};
 
 /// The modelled drives: one for each LUN of `fleet`; the other modes have the first.
 const DRIVES: u32 = 4;
@@ -57,8 +57,12 @@ fn modelled(alloc: Global) -> Result<Vec<ModelDrive>, NoMemory>
     Ok(drives)
 }
 
-/// Does what the words ask for.
-fn run(rt: &HostRuntime) -> Result<Status, NoMemory> {
+/// Does what the words ask for. The drive calls are counted on a blank page of a ledger.
+fn run<L: Ledger>(rt: &HostRuntime, blank: Blank) -> Result<Status, NoMemory>
+    requires name { blank.name ≡ L.name }
+    requires parts { blank.parts ≡ L.parts }
+    requires some { 0 < blank.parts }
+{
     let alloc = rt.alloc();
     let Some(words) = words_of(rt)? else {
         return Ok(Status::Usage);
@@ -69,18 +73,19 @@ fn run(rt: &HostRuntime) -> Result<Status, NoMemory> {
     let mut source = BufferedSource::new(input);
     let mut sink = StdSink::new(rt.stdout());
     let mut drives = modelled(alloc)?;
-    Ok(counted_program::<_, _, _, Brand>(
+    let mut steps = Steps::<L>::new(blank);
+    Ok(program(
         alloc,
         &words,
         &mut source,
         &mut sink,
         &mut drives,
-        Blank::new(1),
+        &mut steps,
     ))
 }
 
 fn main(rt: HostRuntime) -> ExitCode {
-    let status = match run(&rt) {
+    let status = match run::<Brand>(&rt, Blank::new(1)) {
         Ok(status) => status,
         Err(NoMemory) => Status::NoMemory,
     };

@@ -13,7 +13,7 @@ use std::sync::ledger::Ledger;
 
 /// Carries out one command on the drive, with its data in pages of 512 bytes: at least as many as it moves. `LinkDown`: the
 /// link was lost, and what it writes is written in part (ACS-3).
-pub fn run<D: Drive, L: Ledger>(
+pub fn run<D: Drive<L>, L: Ledger>(
     drive: &mut D,
     command: &AtaCommand,
     pages: &mut Pages,
@@ -39,7 +39,7 @@ pub fn run<D: Drive, L: Ledger>(
 }
 
 /// Carries out one command that moves no data on the drive. How it ends is not told.
-pub fn run_bare<D: Drive, L: Ledger>(
+pub fn run_bare<D: Drive<L>, L: Ledger>(
     drive: &mut D,
     command: &AtaCommand,
     steps: &mut Steps<L>,
@@ -59,7 +59,7 @@ pub fn run_bare<D: Drive, L: Ledger>(
 }
 
 /// Reads the IDENTIFY DEVICE data, 512 bytes, into the first page. `LinkDown`: the link was lost (ACS-3, IDENTIFY DEVICE).
-pub fn tell_identity<D: Drive, L: Ledger>(
+pub fn tell_identity<D: Drive<L>, L: Ledger>(
     drive: &mut D,
     pages: &mut Pages,
     steps: &mut Steps<L>,

@@ -30,7 +30,7 @@ pub enum Comparison {
 
 /// Reads a range of 1 to 65,536 blocks for its flaws: the lowest address with one, if any. `LinkDown`: the link was lost
 /// (SAT-3, VERIFY: READ VERIFY SECTOR(S) EXT).
-pub fn verify<D: Drive, L: Ledger>(
+pub fn verify<D: Drive<L>, L: Ledger>(
     range: Range,
     drive: &mut D,
     steps: &mut Steps<L>,
@@ -63,7 +63,7 @@ fn told_flaw(ended: &Taskfile) -> Option<u64>
 }
 
 /// Reads a range into the first of the pages, as many as it has blocks (SAT-3, VERIFY with BYTCHK: READ DMA EXT).
-fn read_piece<D: Drive, L: Ledger>(
+fn read_piece<D: Drive<L>, L: Ledger>(
     range: Range,
     pages: &mut Pages,
     drive: &mut D,
@@ -107,7 +107,7 @@ fn takes_same(wanted: &mut Blocks<'_>, pages: &Pages, count: u32) -> bool
 }
 
 /// Compares a range without flaws, in pieces of 64 blocks, up to the first piece that differs.
-fn compare_pieces<D: Drive, L: Ledger>(
+fn compare_pieces<D: Drive<L>, L: Ledger>(
     range: Range,
     blocks: &Pages,
     scratch: &mut Pages,
@@ -146,7 +146,7 @@ fn compare_pieces<D: Drive, L: Ledger>(
 /// Compares a range of 1 to 4,096 blocks with as many pages, first read for its flaws and then in pieces of 64 blocks, in 65
 /// calls at most. The scratch pages, at least 64, are left with whatever was read. `LinkDown`: the link was lost (SAT-3, VERIFY
 /// with BYTCHK: READ VERIFY SECTOR(S) EXT and READ DMA EXT).
-pub fn compare<D: Drive, L: Ledger>(
+pub fn compare<D: Drive<L>, L: Ledger>(
     range: Range,
     blocks: &Pages,
     scratch: &mut Pages,

@@ -12,7 +12,7 @@ use satl_regs::AtaCommand;
 use std::sync::ledger::Ledger;
 
 /// Writes every sector back. `LinkDown`: the link was lost (SAT-3, SYNCHRONIZE CACHE: FLUSH CACHE EXT).
-pub fn flush<D: Drive, L: Ledger>(drive: &mut D, steps: &mut Steps<L>) -> Result<(), LinkDown>
+pub fn flush<D: Drive<L>, L: Ledger>(drive: &mut D, steps: &mut Steps<L>) -> Result<(), LinkDown>
     requires free { IsFree (D.state drive.old) }
     ensures flushed { OnOk result (IsLeftWith (map settle (D.state drive.old).cells) (D.state drive.old).active
         (D.state drive.old) (D.state drive.new)) }
@@ -24,7 +24,7 @@ pub fn flush<D: Drive, L: Ledger>(drive: &mut D, steps: &mut Steps<L>) -> Result
 }
 
 /// Writes every sector back, unless that is not to be (SBC-3, START STOP UNIT, NO_FLUSH).
-fn flush_unless<D: Drive, L: Ledger>(
+fn flush_unless<D: Drive<L>, L: Ledger>(
     no_flush: bool,
     drive: &mut D,
     steps: &mut Steps<L>,
@@ -45,7 +45,7 @@ fn flush_unless<D: Drive, L: Ledger>(
 }
 
 /// Starts or stops the drive. `LinkDown`: the link was lost (SBC-3, START STOP UNIT).
-pub fn switch<D: Drive, L: Ledger>(
+pub fn switch<D: Drive<L>, L: Ledger>(
     starts: bool,
     no_flush: bool,
     drive: &mut D,
@@ -68,7 +68,7 @@ pub fn switch<D: Drive, L: Ledger>(
 
 /// Stops the drive: all is written back unless NO_FLUSH, and then it is in standby (SAT-3, START STOP UNIT: FLUSH CACHE EXT and
 /// STANDBY IMMEDIATE).
-fn stop<D: Drive, L: Ledger>(
+fn stop<D: Drive<L>, L: Ledger>(
     no_flush: bool,
     drive: &mut D,
     steps: &mut Steps<L>,
@@ -89,7 +89,7 @@ fn stop<D: Drive, L: Ledger>(
 
 /// Starts the drive: a read wakes it, whose end does not matter, and then it is active (SAT-3, START STOP UNIT: READ VERIFY
 /// SECTOR(S) EXT and IDLE IMMEDIATE).
-fn start<D: Drive, L: Ledger>(drive: &mut D, steps: &mut Steps<L>) -> Result<(), LinkDown>
+fn start<D: Drive<L>, L: Ledger>(drive: &mut D, steps: &mut Steps<L>) -> Result<(), LinkDown>
     requires free { IsFree (D.state drive.old) }
     ensures started { OnOk result (IsLeftWith (D.state drive.old).cells true (D.state drive.old) (D.state drive.new)) }
     ensures lost { OnErr result (IsLostIn [] (D.state drive.old) (D.state drive.new)) }

@@ -16,7 +16,7 @@ use std::sync::ledger::Ledger;
 
 /// Carries out the command in these registers, whichever it is but a queued one, with its data in pages of 512 bytes: at least
 /// as many as it moves. `LinkDown`: the link was lost (SAT-3 12.2).
-pub fn pass_through<D: Drive, L: Ledger>(
+pub fn pass_through<D: Drive<L>, L: Ledger>(
     regs: &Registers,
     pages: &mut Pages,
     drive: &mut D,

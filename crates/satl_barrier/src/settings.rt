@@ -14,7 +14,7 @@ use satl_regs::{AtaCommand, Setting};
 use std::sync::ledger::Ledger;
 
 /// Makes a setting of a feature that the drive has. `LinkDown`: the link was lost (ACS-3, SET FEATURES).
-pub fn make_setting<D: Drive, L: Ledger>(
+pub fn make_setting<D: Drive<L>, L: Ledger>(
     drive: &mut D,
     setting: Setting,
     steps: &mut Steps<L>,
@@ -31,7 +31,7 @@ pub fn make_setting<D: Drive, L: Ledger>(
 }
 
 /// Turns the write cache on or off, unless it is so.
-fn set_cache<D: Drive, L: Ledger>(
+fn set_cache<D: Drive<L>, L: Ledger>(
     is_on: bool,
     on: bool,
     drive: &mut D,
@@ -54,7 +54,7 @@ fn set_cache<D: Drive, L: Ledger>(
 }
 
 /// Turns read look-ahead on or off, unless it is so.
-fn set_look<D: Drive, L: Ledger>(
+fn set_look<D: Drive<L>, L: Ledger>(
     is_on: bool,
     on: bool,
     drive: &mut D,
@@ -78,7 +78,7 @@ fn set_look<D: Drive, L: Ledger>(
 
 /// Sets the drive as the mode values are to be: its write cache by WCE, and read look-ahead by DRA. `LinkDown`: the link was
 /// lost (SAT-3 10, MODE SELECT commands).
-pub fn tune<D: Drive, L: Ledger>(
+pub fn tune<D: Drive<L>, L: Ledger>(
     modes: &Modes,
     wanted: &Modes,
     drive: &mut D,

@@ -15,7 +15,7 @@ use std::sync::ledger::Ledger;
 
 /// Trims ranges that one block of entries can name, on a drive that has trim. The scratch pages are as many afterwards; what
 /// they hold then is not told. `LinkDown`: the link was lost (SAT-3, UNMAP: DATA SET MANAGEMENT).
-pub fn trim<D: Drive, L: Ledger>(
+pub fn trim<D: Drive<L>, L: Ledger>(
     ranges: &[Range],
     scratch: &mut Pages,
     drive: &mut D,

@@ -28,7 +28,7 @@ fn fill(pages: &mut Pages, block: &Block)
 }
 
 /// Writes the first of the pages to a range, as many as it has blocks (SAT-3, WRITE SAME: WRITE DMA EXT).
-fn write_piece<D: Drive, L: Ledger>(
+fn write_piece<D: Drive<L>, L: Ledger>(
     range: Range,
     pages: &mut Pages,
     drive: &mut D,
@@ -59,7 +59,7 @@ fn write_piece<D: Drive, L: Ledger>(
 /// Writes the same block at each address of a range of 1 to 65,536 blocks, in pieces of 64 blocks upwards, in 1,024 calls at
 /// most. The scratch pages, at least 64, are as many afterwards; what they hold then is not told. `LinkDown`: the link was lost
 /// (SAT-3, WRITE SAME: WRITE DMA EXT).
-pub fn write_same<D: Drive, L: Ledger>(
+pub fn write_same<D: Drive<L>, L: Ledger>(
     range: Range,
     block: &Block,
     scratch: &mut Pages,

@@ -9,7 +9,7 @@ use Rattle.satl_cdb.specs.declared.command.Command.TheVariants as cdbs
 use Rattle.satl_cdb.specs.declared.command.Illegal.{Illegal}
 use Rattle.satl_cdb.specs.Refusals.{list_length_error}
 use Rattle.satl_cdb.specs.Unmap.{list_fault, ranges_of}
-use Rattle.satl_cdb.specs.BlockCommands.{read, ten, unmap, write}
+use Rattle.satl_cdb.specs.BlockCommands.{read, unmap, write}
 use Rattle.satl_cdb.specs.Table.{says}
 use Rattle.satl_base.specs.declared.modes.Modes.{Modes}
 use Rattle.satl_identify.specs.declared.identity.Identity.{Identity}

@@ -137,6 +137,14 @@ wait_next goes bare flying tasks place next entry out e at told none all =
     subst (λ n. WaitBefore goes flying n tasks) (sym e) (wait_step goes flying tasks place
     (λ h stands is. let here = sym (bare_alike goes bare h.entry entry (seen_there tasks place entry h at stands)) ∙ is in sym (told here h stands) ∙ none here) all)
 
+-- a task that passes is not outstanding, where those that pass are none
+pub waits_at : (goes : Entry → Bool) (flying : List Flying) (tasks : List Held) (place : ℕ) (h : Held) → AreWaiting goes flying tasks → slice_get tasks place ≡ Some h → goes h.entry ≡ true → is_outstanding flying h.slot ≡ false
+waits_at goes flying [] place h all at is = absurd cc
+waits_at goes flying (t ∷ tasks) zero h all at is =
+    let same : t ≡ h = cc in
+    subst (λ (k : Held). goes k.entry ≡ true → is_outstanding flying k.slot ≡ false) same all.0 is
+waits_at goes flying (t ∷ tasks) (suc place) h all at is = waits_at goes flying tasks place h all.1 at is
+
 -- where a task is outstanding something is
 pub some_held : (flying : List Flying) (slot : ℕ) → is_outstanding flying slot ≡ true → flying ≢ []
 some_held [] slot held = absurd cc

@@ -1,6 +1,7 @@
 pub mod Transfers
 pub mod HeldLemmas
 pub mod LeavingLemmas
+pub mod CallingLemmas
 pub mod DeviceLemmas
 pub mod QuietLemmas
 pub mod ComposeLemmas

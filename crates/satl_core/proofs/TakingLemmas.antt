@@ -1,5 +1,5 @@
 -- Tasks are taken off, and what may be issued then is.
-use Rattle.std.proofs.Common.{◌≡◌, inl, ⊎_elim, refl, sym, ap, subst, ◌∙◌, ◌-◌, arith, ◌+◌, ◌≤◌, true, false, Bool, List, [], ◌∷◌, ◌++◌, length, map, cond, Some, eqb-true, eq-eqb}
+use Rattle.std.proofs.Common.{◌≡◌, inl, ⊎_elim, refl, sym, ap, subst, ◌∙◌, ◌-◌, arith, ◌≤◌, true, false, Bool, List, [], ◌∷◌, ◌++◌, length, map, cond, Some, eqb-true, eq-eqb}
 use Rattle.std.specs.Prelude.{not, ◌||◌, ◌==◌, filter, MatchBool}
 use Rattle.std.specs.List.{find}
 use Rattle.std.proofs.lemmas.Bool.{or_right}

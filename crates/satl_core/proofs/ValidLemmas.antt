@@ -190,6 +190,9 @@ module _ (l new : Layer) (d : DriveState) (r : Request) (c : Command) (replies :
   pub becomes_down : new.down ≡ l.down
   becomes_down = ap (λ (x : Layer). x.down) becomes_same
 
+  pub becomes_flying : new.flying ≡ l.flying
+  becomes_flying = ap (λ (x : Layer). x.flying) becomes_same
+
   -- a full set stays as it is
   full_same : (replies ≡ [] → ⊥) → new ≡ record l { free = new.free; out = new.out }
   full_same some = (elim (is_too_much l.tasks (task_without_pages l.identity.queued_trim r c)) as (λ f. MatchBool f (FindsSetFull r l replies new) (IsAdded r c l replies new) → new ≡ record l { free = new.free; out = new.out }) [

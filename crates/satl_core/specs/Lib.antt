@@ -1,5 +1,6 @@
 pub mod Alone
 pub mod Benching
+pub mod Calling
 pub mod Flushed
 pub mod Layer
 pub mod Leaving

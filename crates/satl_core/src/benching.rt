@@ -4,9 +4,10 @@ ghost use Rattle.satl_core.specs.Benching.{IsActedOn};
 
 use satl_base::BenchEvent;
 use satl_drive::Bench;
+use std::sync::ledger::Ledger;
 
 /// An event happens to the drive (profile).
-pub fn act_on<D: Bench>(drive: &mut D, event: &BenchEvent<'_>)
+pub fn act_on<D: Bench<L>, L: Ledger>(drive: &mut D, event: &BenchEvent<'_>)
     ensures acted { IsActedOn event.now (D.state drive.old) (D.state drive.new) }
     ensures fit { IsFit (D.state drive.old) → IsFit (D.state drive.new) }
 {

@@ -46,7 +46,8 @@ pub fn has_any(queue: &Queue, scope: &Scope) -> bool
 /// Whether one of these tasks is outstanding.
 pub fn has_outstanding(queue: &Queue, scope: &Scope) -> bool
     ensures none { result ≡ false → AreWaiting (is_within scope.now) queue.now.flying queue.now.tasks }
-    ensures some { result ≡ true → queue.now.flying ≢ [] }
+    ensures some { result ≡ true → AreWaiting (is_within scope.now) queue.now.flying queue.now.tasks → ⊥ }
+    ensures flying { result ≡ true → queue.now.flying ≢ [] }
 {
     for place in 0..queue.len() {
         if is_within(scope, queue.entry(place)) && queue.is_outstanding(place) {

@@ -20,7 +20,7 @@ use satl_regs::{ICRC_ABRT, UNC};
 use std::sync::ledger::Ledger;
 
 /// A VERIFY without comparison of a range of 1 to 65,536 blocks (SBC-3, VERIFY commands).
-pub fn verify_range<D: Drive, L: Ledger>(
+pub fn verify_range<D: Drive<L>, L: Ledger>(
     range: Range,
     drive: &mut D,
     steps: &mut Steps<L>,
@@ -37,7 +37,7 @@ pub fn verify_range<D: Drive, L: Ledger>(
 }
 
 /// A VERIFY that compares a range of 1 to 4,096 blocks with as many pages (SBC-3, VERIFY commands, BYTCHK).
-pub fn compare_range<D: Drive, L: Ledger>(
+pub fn compare_range<D: Drive<L>, L: Ledger>(
     range: Range,
     blocks: &Pages,
     pool: &mut Pool,
@@ -62,7 +62,7 @@ pub fn compare_range<D: Drive, L: Ledger>(
 }
 
 /// A WRITE SAME of the first page to a range of 1 to 65,536 blocks (SBC-3, WRITE SAME commands).
-pub fn write_range<D: Drive, L: Ledger>(
+pub fn write_range<D: Drive<L>, L: Ledger>(
     range: Range,
     body: &Pages,
     pool: &mut Pool,
@@ -88,7 +88,7 @@ pub fn write_range<D: Drive, L: Ledger>(
 }
 
 /// A trim of ranges that one block of entries can name (SBC-3, UNMAP and WRITE SAME commands).
-pub fn trim_ranges<D: Drive, L: Ledger>(
+pub fn trim_ranges<D: Drive<L>, L: Ledger>(
     ranges: &[Range],
     pool: &mut Pool,
     drive: &mut D,

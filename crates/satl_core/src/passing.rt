@@ -21,7 +21,7 @@ use std::sync::ledger::Ledger;
 
 /// Carries the command of an ATA PASS-THROUGH out, with its data in these pages. `LinkDown`: the link was lost meanwhile (SAT-3
 /// 12.2).
-pub fn run_through<D: Drive, L: Ledger>(
+pub fn run_through<D: Drive<L>, L: Ledger>(
     cdb: &[u8; 16],
     body: &mut Pages,
     drive: &mut D,

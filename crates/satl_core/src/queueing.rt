@@ -1,5 +1,5 @@
 // Tasks on the drive's queue: what is issued, what ends, and what is taken off.
-ghost use Rattle.std.specs.Prelude.{◌≡◌, ◌≢◌, ◌≤◌, ◌<◌, ◌+◌, ◌++◌, [], true, length, List, MatchBool};
+ghost use Rattle.std.specs.Prelude.{◌≡◌, ◌≢◌, ◌≤◌, ◌<◌, ◌+◌, ◌++◌, [], true, false, length, List, MatchBool};
 ghost use Rattle.std.specs.List.{AllByRecursion};
 ghost use Rattle.satl_base.specs.Identify.{has_queued_trim};
 ghost use Rattle.satl_base.specs.Limits.{most_tasks};
@@ -9,6 +9,7 @@ ghost use Rattle.satl_frame.specs.Output.{IsWritable};
 ghost use Rattle.satl_direct.specs.Quiet.{Around};
 ghost use Rattle.satl_direct.specs.Run.{MayLose};
 ghost use Rattle.satl_flight.specs.Settled.{IsFilled};
+ghost use Rattle.satl_core.specs.Calling.{OnlyIssues, PollsOnce, ResetsFor};
 ghost use Rattle.satl_core.specs.Flushed.{IsFlushed, IsSettled};
 ghost use Rattle.satl_core.specs.Layer.{Agrees, Tied, reply_pages, view, works};
 ghost use Rattle.satl_core.specs.Leaving.{is_within};
@@ -47,7 +48,7 @@ impl Satl {
     }
 
     /// Issues what may be issued, where the unit is up and started. Where the link is lost in it, all tasks are answered.
-    pub(crate) fn refill<D: Drive, L: Ledger>(
+    pub(crate) fn refill<D: Drive<L>, L: Ledger>(
         &mut self,
         drive: &mut D,
         replies: &mut Replies,
@@ -67,6 +68,8 @@ impl Satl {
         ensures unasked { self.old.down ≡ true → drive.new ≡ drive.old }
         ensures uncalled { self.old.down ≡ true → steps.new ≡ steps.old }
         ensures unanswered { self.old.down ≡ true → (replies.new ≡ replies.old) × (self.new ≡ self.old) }
+        ensures unlost { self.new.down ≡ false → replies.new ≡ replies.old }
+        ensures issues { self.new.down ≡ false → OnlyIssues self.old.flying steps.old self.new steps.new }
         ensures steps { steps.new ≤ steps.old + 32 }
     {
         if self.down || !self.started {
@@ -79,7 +82,7 @@ impl Satl {
     }
 
     /// Issues the task that came last, if it may be issued, where the unit is up and started.
-    pub(crate) fn send_last<D: Drive, L: Ledger>(
+    pub(crate) fn send_last<D: Drive<L>, L: Ledger>(
         &mut self,
         drive: &mut D,
         replies: &mut Replies,
@@ -97,6 +100,7 @@ impl Satl {
         ensures rest { KeepsRest self.old replies.old self.new replies.new }
         ensures unasked { self.old.down ≡ true → drive.new ≡ drive.old }
         ensures uncalled { self.old.down ≡ true → steps.new ≡ steps.old }
+        ensures issues { self.new.down ≡ false → steps.new + length self.old.flying ≡ steps.old + length self.new.flying }
         ensures steps { steps.new ≤ steps.old + 1 }
     {
         if self.down || !self.started {
@@ -110,7 +114,7 @@ impl Satl {
 
     /// Takes these tasks off, without an answer: where one of them is outstanding the drive is reset, and the others are issued
     /// again (SAM-5, overlapped commands, and 7; ACS-3, software reset).
-    pub(crate) fn take_off<D: Drive, L: Ledger>(
+    pub(crate) fn take_off<D: Drive<L>, L: Ledger>(
         &mut self,
         scope: &Scope,
         drive: &mut D,
@@ -126,6 +130,8 @@ impl Satl {
         ensures rest { KeepsRest self.old replies.old self.new replies.new }
         ensures unasked { self.old.down ≡ true → drive.new ≡ drive.old }
         ensures uncalled { self.old.down ≡ true → steps.new ≡ steps.old }
+        ensures resets { self.new.down ≡ false
+            → ResetsFor (is_within scope.now) self.old steps.old self.new steps.new }
         ensures steps { steps.new ≤ steps.old + off_calls }
     {
         if has_outstanding(&self.queue, scope) {
@@ -138,7 +144,7 @@ impl Satl {
 
     /// The drive is reset, these tasks go, and the others are issued again. Where the link is lost in it, all others are
     /// answered.
-    fn cut_off<D: Drive, L: Ledger>(
+    fn cut_off<D: Drive<L>, L: Ledger>(
         &mut self,
         scope: &Scope,
         drive: &mut D,
@@ -153,6 +159,7 @@ impl Satl {
         ensures tied { Tied self.new (D.state drive.new) }
         ensures kept { AreKept self.old (D.state drive.old) self.new (D.state drive.new) }
         ensures rest { KeepsRest self.old replies.old self.new replies.new }
+        ensures issues { self.new.down ≡ false → OnlyIssues [] (steps.old + 1) self.new steps.new }
         ensures steps { steps.new ≤ steps.old + off_calls }
     {
         let cut = self.queue.cut(drive, steps);
@@ -164,7 +171,7 @@ impl Satl {
     }
 
     /// A task ends that is outstanding, or else the first one. At a lost link all tasks are answered.
-    pub(crate) fn end_one<D: Drive, L: Ledger>(
+    pub(crate) fn end_one<D: Drive<L>, L: Ledger>(
         &mut self,
         drive: &mut D,
         replies: &mut Replies,
@@ -189,6 +196,9 @@ impl Satl {
         ensures still_down { self.old.down ≡ true → self.new.down ≡ true }
         ensures unasked { self.old.down ≡ true → drive.new ≡ drive.old }
         ensures uncalled { self.old.down ≡ true → steps.new ≡ steps.old }
+        ensures polls { self.old.flying ≢ [] → self.new.down ≡ false
+            → PollsOnce self.old.flying steps.old replies.new self.new.flying steps.new }
+        ensures idle { self.old.flying ≡ [] → self.new.flying ≡ [] }
         ensures queued { self.old.flying ≢ [] → steps.new ≤ steps.old + 2 }
         ensures steps { steps.new ≤ steps.old + barrier_calls }
     {
@@ -200,7 +210,7 @@ impl Satl {
     }
 
     /// The first task ends, with nothing outstanding. At a lost link all tasks are answered.
-    fn end_first<D: Drive, L: Ledger>(
+    fn end_first<D: Drive<L>, L: Ledger>(
         &mut self,
         drive: &mut D,
         replies: &mut Replies,
@@ -260,7 +270,7 @@ impl Satl {
     }
 
     /// A task that is outstanding ends, whichever the drive says. At a lost link all tasks are answered.
-    fn end_queued<D: Drive, L: Ledger>(
+    fn end_queued<D: Drive<L>, L: Ledger>(
         &mut self,
         drive: &mut D,
         replies: &mut Replies,
@@ -280,6 +290,8 @@ impl Satl {
         ensures fewer { length self.new.tasks + 1 ≤ length self.old.tasks }
         ensures room { length replies.new + length self.new.tasks ≤ 65 }
         ensures unflushed { IsFlushed self.old.tasks replies.new → Rose (D.state drive.old).faults (D.state drive.new).faults }
+        ensures polls { self.new.down ≡ false
+            → PollsOnce self.old.flying steps.old replies.new self.new.flying steps.new }
         ensures steps { steps.new ≤ steps.old + 2 }
     {
         let descriptor = self.modes.d_sense;

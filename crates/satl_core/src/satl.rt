@@ -26,7 +26,10 @@ ghost use Rattle.satl_line.specs.Tasks.{total_blocks};
 ghost use Rattle.satl_base.specs.Limits.{most_held, most_tasks};
 ghost use Rattle.satl_core.specs.Flushed.{IsFlushed, IsSettled};
 ghost use Rattle.satl_core.specs.Turning.{off_calls, turn_calls};
-ghost use Rattle.satl_flight.specs.Settled.{Deepens};
+ghost use Rattle.satl_flight.specs.Settled.{Deepens, IssuesInOrder};
+ghost use Rattle.satl_core.specs.Calling.{PollsAndIssues, ResetsFor};
+ghost use Rattle.satl_core.specs.Leaving.{is_within};
+ghost use Rattle.satl_core.specs.Managing.{effect};
 
 use crate::benching::act_on;
 use crate::leaving::{Scope, drop_tasks};
@@ -124,7 +127,7 @@ impl Satl {
     /// Opens the layer on a drive with nothing outstanding and in no error state, whose IDENTIFY DEVICE data fit it: it asks
     /// the drive for these data once, and takes all memory that it will use. `Identity`: the layer does not serve such a drive.
     /// `LinkDown`: the drive's link is lost. `NoMemory` may come before or after the drive is asked (SAT-3; profile).
-    pub fn open<D: Drive, L: Ledger>(
+    pub fn open<D: Drive<L>, L: Ledger>(
         alloc: Global,
         drive: &mut D,
         steps: &mut Steps<L>,
@@ -176,7 +179,7 @@ impl Satl {
     /// task's or are given back (SAM-5 5; the order of the tests: profile). Where it has the nexus and tag of a task, all tasks
     /// of its nexus go without an answer. Where no page was free for all of its data-out, it does what the whole request does.
     /// Where the link is lost in it, all tasks are answered.
-    pub fn submit<D: Drive, L: Ledger>(
+    pub fn submit<D: Drive<L>, L: Ledger>(
         &mut self,
         request: Request,
         drive: &mut D,
@@ -199,6 +202,10 @@ impl Satl {
         ensures uncalled { self.old.down ≡ true → steps.new ≡ steps.old }
         ensures calls { steps.new + turn_calls * length self.new.tasks
             ≤ steps.old + turn_calls * (length self.old.tasks + 1) + off_calls }
+        ensures issues { is_overlapping self.old.tasks request ≡ false → self.new.down ≡ false
+            → steps.new + length self.old.flying ≡ steps.old + length self.new.flying }
+        ensures resets { is_overlapping self.old.tasks request ≡ true → self.new.down ≡ false
+            → ResetsFor (is_within (Scope.OfNexus request.nexus)) self.old steps.old self.new steps.new }
         ensures steps { steps.new ≤ steps.old + arrival_calls self.old.tasks request }
     {
         if self.overlaps(&request) {
@@ -235,7 +242,7 @@ impl Satl {
 
     /// A request that has the nexus and tag of a task is refused, and all tasks of its nexus go without an answer (SAM-5,
     /// overlapped commands).
-    fn overlap<D: Drive, L: Ledger>(
+    fn overlap<D: Drive<L>, L: Ledger>(
         &mut self,
         request: Request,
         drive: &mut D,
@@ -257,6 +264,8 @@ impl Satl {
         ensures writable { AllByRecursion IsWritable replies.new }
         ensures unasked { self.old.down ≡ true → drive.new ≡ drive.old }
         ensures uncalled { self.old.down ≡ true → steps.new ≡ steps.old }
+        ensures resets { self.new.down ≡ false
+            → ResetsFor (is_within (Scope.OfNexus request.nexus)) self.old steps.old self.new steps.new }
         ensures steps { steps.new ≤ steps.old + off_calls }
     {
         let scope = Scope::OfNexus(request.nexus);
@@ -327,7 +336,7 @@ impl Satl {
     /// One turn: a task ends that is outstanding, or else the first one; then what may be issued is. At a lost link all tasks
     /// are answered, in order of arrival (SAM-5 5; lost links: profile). A MODE SELECT sets the drive first, then the mode
     /// values, and the other nexuses are told (SPC-4, MODE SELECT commands).
-    pub fn turn<D: Drive, L: Ledger>(
+    pub fn turn<D: Drive<L>, L: Ledger>(
         &mut self,
         drive: &mut D,
         replies: &mut Replies,
@@ -347,6 +356,10 @@ impl Satl {
         ensures flushed { IsFlushed self.old.tasks replies.new
             → (Rose (D.state drive.old).faults (D.state drive.new).faults → ⊥)
             → AllByRecursion IsSettled (D.state drive.new).cells }
+        ensures polls { self.old.flying ≢ [] → self.new.down ≡ false
+            → PollsAndIssues self.old steps.old replies.new self.new steps.new }
+        ensures in_order { self.old.flying ≡ [] → self.new.down ≡ false
+            → IssuesInOrder [] self.new.flying self.new.tasks }
         ensures queued { self.old.flying ≢ [] → steps.new ≤ steps.old + 34 }
         ensures none { self.old.tasks ≡ [] → steps.new ≡ steps.old }
         ensures steps { steps.new ≤ steps.old + turn_calls }
@@ -361,7 +374,7 @@ impl Satl {
 
     /// A task management function is carried out: tasks go without an answer, and unit attentions are posted (SAM-5 7; the
     /// codes: profile). Where the link is lost in it, all other tasks are answered.
-    pub fn manage<D: Drive, L: Ledger>(
+    pub fn manage<D: Drive<L>, L: Ledger>(
         &mut self,
         manage: &Manage,
         drive: &mut D,
@@ -383,6 +396,8 @@ impl Satl {
         ensures uncalled { self.old.down ≡ true → steps.new ≡ steps.old }
         ensures calls { steps.new + turn_calls * length self.new.tasks
             ≤ steps.old + turn_calls * length self.old.tasks + off_calls }
+        ensures resets { self.new.down ≡ false
+            → ResetsFor (is_within (effect manage.now self.old.tasks).goes) self.old steps.old self.new steps.new }
         ensures steps { steps.new ≤ steps.old + off_calls }
     {
         let effect = decide(manage, &self.queue);
@@ -393,7 +408,7 @@ impl Satl {
 
     /// An event of the test bench happens to the drive, and the layer to what follows from it: at a power cycle the tasks go
     /// without an answer, the modes are the defaults and each nexus is told; at a lost link all tasks are answered (profile).
-    pub fn bench<D: Bench, L: Ledger>(
+    pub fn bench<D: Bench<L>, L: Ledger>(
         &mut self,
         event: &BenchEvent<'_>,
         drive: &mut D,
@@ -417,7 +432,7 @@ impl Satl {
         ensures deep { Deepens (D.state drive.old) (D.state drive.new) }
         ensures steps { steps.new ≡ steps.old }
     {
-        act_on(drive, event);
+        act_on::<D, L>(drive, event);
         self.follow(event, replies);
     }
 
@@ -486,7 +501,7 @@ impl Satl {
         ensures out { self.new.out + length pages ≡ self.old.out }
     {
         let pages = self.queue.exchange(pages);
-        self.pool.give(pages);
+        self.pool.give_room(pages);
     }
 }
 

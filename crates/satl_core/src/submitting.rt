@@ -370,7 +370,7 @@ fn other_pages(pool: &mut Pool, count: u32, body: Pages) -> Pages
     ensures out { pool.new.out + length body ≡ pool.old.out + length result }
 {
     pool.give(body);
-    let Some(pages) = pool.take(count) else {
+    let Some(pages) = pool.take_room(count) else {
         unreachable!();
     };
     pages

@@ -42,7 +42,7 @@ pub enum Ending {
 /// that is stopped where the command needs it started, as a READ and a WRITE do, and the drive. `modes` are the mode values
 /// that there are, as the drive is set, and `wanted` those that the task wants. `LinkDown`: the link was lost while the task
 /// was carried out.
-pub fn run_task<D: Drive, L: Ledger>(
+pub fn run_task<D: Drive<L>, L: Ledger>(
     down: bool,
     started: bool,
     modes: &Modes,
@@ -98,7 +98,7 @@ fn not_ready() -> Ending
 }
 
 /// Carries out what runs alone, on a drive whose link is up. `LinkDown`: the link was lost meanwhile.
-fn carry_out<D: Drive, L: Ledger>(
+fn carry_out<D: Drive<L>, L: Ledger>(
     alone: Alone,
     modes: &Modes,
     wanted: &Modes,

@@ -1,6 +1,6 @@
 -- One event on the unit of a number.
 use Rattle.std.proofs.Common.{◌≡◌, sym, ap, subst, ◌∙◌, arith, ℕ, ◌+◌, ◌*◌, ◌<◌, ◌≤◌, List, [], length, map, mul-add, refl}
-use Rattle.std.specs.Prelude.{Option, Some, slice_get, slice_set, slice_index_or}
+use Rattle.std.specs.Prelude.{Option, Some, IfSome, slice_get, slice_set, slice_index_or}
 use Rattle.std.specs.List.{AllByRecursion}
 use Rattle.std.proofs.lemmas.List.{map-set}
 use Rattle.satl_base.specs.declared.reply.Reply.{Reply}
@@ -11,7 +11,8 @@ use Rattle.satl_frame.specs.declared.frames.Frame.{Frame}
 use Rattle.satl_direct.specs.Run.{Does, DoesInPart, losses_in}
 use Rattle.satl_drive.specs.State.{DriveState}
 use Rattle.satl_core.specs.Layer.{Layer, view}
-use Rattle.satl_fleet.specs.Rounds.{DidAt, DidAtInPart, stage}
+use Rattle.satl_step.specs.Events.{CallsNone}
+use Rattle.satl_fleet.specs.Rounds.{CallsNoneAt, DidAt, DidAtInPart, stage}
 use Rattle.satl_fleet.specs.Serving.{CanServe, HasUnits, KeepsUnits, Target}
 use Rattle.satl_fleet.specs.Units.{Did, IsReady, IsTiedUnit, UnitDid, UnitDidInPart, UnitState, device_of, pending, unit_state, unit_states}
 use Rattle.satl_fleet.proofs.SpotLemmas.{all_at, all_set, pending_set, some_at, spots_at, spots_set}
@@ -23,6 +24,10 @@ module _ {D : Type 0} (f : D → DriveState) (ls : List Layer) (ds : List D) (k 
 
   pub here : slice_get before k ≡ Some (unit_state l (f d))
   here = spots_at ls (map f ds) k l (f d) (some_at ls k l small l_is) (get-map f ds k d (some_at ds k d less d_is))
+
+  -- an event in which the unit does not call its drive
+  pub none_here : (event : Frame) → CallsNoneAt k event before → CallsNone event (view l (f d))
+  none_here event none = subst (λ o. IfSome o (λ s. CallsNone event (device_of s))) here none
 
   pub ready_here : AllByRecursion IsReady before → IsReady (unit_state l (f d))
   ready_here all = all_at IsReady before k (unit_state l (f d)) all here

@@ -3,6 +3,7 @@ use Rattle.std.proofs.Common.{◌≡◌, inl, inr, refl, sym, ap, subst, ◌∙�
 use Rattle.std.proofs.lemmas.Bool.{eq-eqb, ne_eqb}
 use Rattle.std.proofs.lemmas.List.{append-nil}
 use Rattle.std.specs.Prelude.{◌==◌, if◌then◌else◌, Option}
+use Rattle.std.specs.List.{AllByRecursion}
 use Rattle.satl_base.specs.declared.request.Request.{Request}
 use Rattle.satl_base.specs.declared.request.Manage.{Manage}
 use Rattle.satl_io.specs.Known.{Wrote, WrotePart}
@@ -12,11 +13,12 @@ use Rattle.satl_frame.specs.Output.Answer.{replied}
 use Rattle.satl_frame.specs.declared.frames.Frame.{Frame}
 use Rattle.satl_frame.specs.declared.frames.Frame.TheVariants as frames
 use Rattle.satl_fleet.specs.Output.{end_told, named, round_told, target_told, told_from, told_under}
-use Rattle.satl_fleet.specs.Rounds.{AllDid, AllDidInPart, DidAt, DidAtInPart, EachDid, IsTurnOrBench, RoundDone, RoundInPart, Stage, Stops, round_of, silence, stage}
+use Rattle.satl_fleet.specs.Rounds.{AllDid, AllDidInPart, CallsNoneAt, DidAt, DidAtInPart, EachDid, IsTurnOrBench, NoneCalls, RoundDone, RoundInPart, Stage, Stops, round_of, silence, stage}
 use Rattle.satl_fleet.specs.Routing.{is_for_all, is_report, lun_0, route_to, seen}
 use Rattle.satl_fleet.specs.declared.routing.Route.{Route}
 use Rattle.satl_fleet.specs.Target.{target_reply}
 use Rattle.satl_fleet.specs.Serving.{Target}
+use Rattle.satl_fleet.specs.Units.{UnitState}
 use Rattle.satl_fleet.proofs.RoundLemmas.{all_pass, alone, one_serves, one_stops, serves_all, stops_all, told_alone, told_silence}
 
 -- ---- what it is to the units
@@ -149,11 +151,24 @@ turn_goes_on (frames.Turn n) is = refl
 turn_goes_on (frames.Bench e) is = refl
 turn_goes_on frames.End is = absurd is
 
+-- ---- where no drive is called
+
+-- a unit that sees one event
+none_seen : (units k : ℕ) (frame event : Frame) (ss : List UnitState) → seen units k frame ≡ event ∷ [] → NoneCalls units frame ss → CallsNoneAt k event ss
+none_seen units k frame event ss is none = (subst (AllByRecursion (λ e. CallsNoneAt k e ss)) is (none k)).0
+
+-- all see it
+pub none_all : (units : ℕ) (frame event : Frame) (ss : List UnitState) → ((k : ℕ) → seen units k frame ≡ event ∷ []) → NoneCalls units frame ss → (k : ℕ) → CallsNoneAt k event ss
+none_all units frame event ss each none k = none_seen units k frame event ss (each k) none
+
 -- ---- to one unit
 
 module _ (units : ℕ) (m : Manage) (to : Route) (is : to ≡ route_to units m.lun) (one : is_for_all m ≡ false) (a b : Stage) where
   pub manage_one : DidAt to.unit (frames.Manage (record m { lun = to.lun })) a b → RoundDone units (frames.Manage m) a b
   manage_one d = one_round units (frames.Manage m) refl refl (managed_there units m) a b (route_to units m.lun).unit (manage_here units m one) (manage_other units m one) (subst (λ (x : Route). DidAt x.unit (frames.Manage (record m { lun = x.lun })) a b) is d)
+
+  pub manage_uncalled : NoneCalls units (frames.Manage m) a.target.units → CallsNoneAt to.unit (frames.Manage (record m { lun = to.lun })) a.target.units
+  manage_uncalled none = subst (λ (x : Route). CallsNoneAt x.unit (frames.Manage (record m { lun = x.lun })) a.target.units) (sym is) (none_seen units (route_to units m.lun).unit (frames.Manage m) (managed_there units m) a.target.units (manage_here units m one) none)
 
   pub manage_one_part : DidAtInPart to.unit (frames.Manage (record m { lun = to.lun })) a b → RoundInPart units (frames.Manage m) a b
   manage_one_part d = one_round_part units (frames.Manage m) refl refl (managed_there units m) a b (route_to units m.lun).unit (manage_here units m one) (manage_other units m one) (subst (λ (x : Route). DidAtInPart x.unit (frames.Manage (record m { lun = x.lun })) a b) is d)
@@ -164,6 +179,9 @@ module _ (units : ℕ) (r : Request) (to : Route) (is : to ≡ route_to units r.
 
   pub request_one : DidAt to.unit (frames.Request (record r { lun = to.lun })) a b → RoundDone units (frames.Request r) a b
   request_one d = one_round units (frames.Request r) quiet refl (there units r) a b (route_to units r.lun).unit (request_here units r other) (request_other units r other) (subst (λ (x : Route). DidAt x.unit (frames.Request (record r { lun = x.lun })) a b) is d)
+
+  pub request_uncalled : NoneCalls units (frames.Request r) a.target.units → CallsNoneAt to.unit (frames.Request (record r { lun = to.lun })) a.target.units
+  request_uncalled none = subst (λ (x : Route). CallsNoneAt x.unit (frames.Request (record r { lun = x.lun })) a.target.units) (sym is) (none_seen units (route_to units r.lun).unit (frames.Request r) (there units r) a.target.units (request_here units r other) none)
 
   pub request_one_part : DidAtInPart to.unit (frames.Request (record r { lun = to.lun })) a b → RoundInPart units (frames.Request r) a b
   request_one_part d = one_round_part units (frames.Request r) quiet refl (there units r) a b (route_to units r.lun).unit (request_here units r other) (request_other units r other) (subst (λ (x : Route). DidAtInPart x.unit (frames.Request (record r { lun = x.lun })) a b) is d)

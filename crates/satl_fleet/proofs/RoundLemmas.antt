@@ -1,19 +1,20 @@
 -- One frame over the units.
 use Rattle.std.proofs.Common.{◌≡◌, append_assoc, refl, sym, ap, subst, ◌∙◌, arith, ℕ, zero, suc, ◌+◌, ◌≤◌, List, [], ◌∷◌, ◌++◌, drop, length}
 use Rattle.std.proofs.lemmas.List.{append-nil, length-map}
-use Rattle.std.specs.Prelude.{Some, slice_get, slice_index_or, slice_set}
+use Rattle.std.specs.Prelude.{Some, IfSome, slice_get, slice_index_or, slice_set}
 use Rattle.satl_io.specs.Known.{Wrote, WrotePart}
 use Rattle.satl_io.proofs.Joined.{Wrote-more, Wrote-none, WrotePart-more}
 use Rattle.satl_frame.specs.Output.{Answer}
 use Rattle.satl_frame.specs.declared.frames.Frame.{Frame}
 use Rattle.satl_fleet.specs.Output.{IsRoundOf, told_from, told_under}
-use Rattle.satl_fleet.specs.Rounds.{AllDid, AllDidInPart, DidAt, DidAtInPart, DidTo, DidToInPart, EachDid, Stage, Stops, round_of, silence}
+use Rattle.satl_fleet.specs.Rounds.{AllDid, AllDidInPart, CallsNoneAt, DidAt, DidAtInPart, DidTo, DidToInPart, EachDid, Stage, Stops, round_of, silence}
 use Rattle.satl_fleet.specs.Rounds.DidTo.{rest, more}
 use Rattle.satl_fleet.specs.Rounds.DidToInPart.{here as part_here, later as part_later}
 use Rattle.satl_fleet.specs.Rounds.EachDid.{none as no_unit, passes as unit_passes, serves as unit_serves}
 use Rattle.satl_fleet.specs.Rounds.Stops.{here as stop_here, passes as stop_passes, serves as stop_serves}
 use Rattle.satl_fleet.specs.Routing.{seen}
-use Rattle.satl_fleet.specs.Units.{Did, DidInPart, UnitState}
+use Rattle.satl_step.specs.Events.{CallsNone}
+use Rattle.satl_fleet.specs.Units.{Did, DidInPart, UnitState, device_of}
 
 -- ---- telling
 
@@ -95,6 +96,15 @@ done_part event n a b c done at = record {
   did = subst (DidToInPart event (done.groups ++ at.answers ∷ silence (drop (suc n) a.target.units)) a.target.units) (sym at.set) (part_push done.did at.here at.did);
   part = subst (WrotePart a.written c.written) (place at.answers (drop (suc n) a.target.units) done.did) (WrotePart-more done.wrote at.part);
 }
+
+-- the next unit is as before
+next_stays : {event : Frame} {n : ℕ} {groups : List (List Answer)} {olds news : List UnitState} → DidTo event n groups olds news → slice_get news n ≡ slice_get olds n
+next_stays rest = refl
+next_stays (more did to) = next_stays to
+
+-- and does not call its drive, where none does
+pub none_left : {event : Frame} {n : ℕ} {a b : Stage} → DoneTo event n a b → ((k : ℕ) → CallsNoneAt k event a.target.units) → CallsNoneAt n event b.target.units
+none_left {event} {n} done none = subst (λ o. IfSome o (λ s. CallsNone event (device_of s))) (sym (next_stays done.did)) (none n)
 
 -- ---- a frame
 

@@ -1,16 +1,18 @@
 -- One frame over the units of a target (profile).
 use Rattle.std.specs.Prelude.{◌≡◌, ◌⊎◌, ℕ, zero, suc, ◌+◌, ◌*◌, ◌≤◌, if◌then◌else◌}
-use Rattle.std.specs.Prelude.{List, [], ◌∷◌, length, map, Option, Some, slice_get, slice_set, sum_by}
+use Rattle.std.specs.Prelude.{List, [], ◌∷◌, length, map, Option, Some, IfSome, slice_get, slice_set, sum_by}
+use Rattle.std.specs.List.{AllByRecursion}
 use Rattle.satl_io.specs.Known.{Wrote, WrotePart}
 use Rattle.satl_frame.specs.declared.frames.Frame.{Frame}
 use Rattle.satl_frame.specs.declared.frames.Frame.TheVariants as frames
 use Rattle.satl_frame.specs.Output.{Answer}
 use Rattle.satl_base.specs.Limits.{IsExpectable}
 use Rattle.satl_core.specs.Turning.{off_calls, turn_calls}
+use Rattle.satl_step.specs.Events.{CallsNone}
 use Rattle.satl_fleet.specs.Output.{Round, round_told, told_from, told_under}
 use Rattle.satl_fleet.specs.Routing.{is_for_all, is_report, seen}
 use Rattle.satl_fleet.specs.Serving.{Target}
-use Rattle.satl_fleet.specs.Units.{Did, DidInPart, UnitState}
+use Rattle.satl_fleet.specs.Units.{Did, DidInPart, UnitState, device_of}
 
 -- a target, and what was written (profile)
 pub record Stage : Type 0 where
@@ -131,6 +133,14 @@ frame_calls units _ = 0
 -- the most calls of drives that frames take (profile)
 abbrev pub calls_for : ℕ → List Frame → ℕ
 calls_for units fs = sum_by (frame_calls units) fs
+
+-- the unit of this number does not call its drive in an event (profile)
+abbrev pub CallsNoneAt : ℕ → Frame → List UnitState → Type 0
+CallsNoneAt k event ss = IfSome (slice_get ss k) (λ s. CallsNone event (device_of s))
+
+-- no unit calls its drive in what a frame is to it (profile)
+abbrev pub NoneCalls : ℕ → Frame → List UnitState → Type 0
+NoneCalls units frame ss = (k : ℕ) → AllByRecursion (λ event. CallsNoneAt k event ss) (seen units k frame)
 
 -- turns, or an event of the bench (profile)
 abbrev pub IsTurnOrBench : Frame → Type 0

@@ -5,7 +5,7 @@ ghost use Rattle.satl_frame.specs.declared.frames.Frame.{Frame};
 ghost use Rattle.satl_base.specs.Limits.{IsExpectable};
 ghost use Rattle.satl_pages.specs.Counts.{number_of};
 ghost use Rattle.satl_step.specs.Runs.{calls_allowed};
-ghost use Rattle.satl_fleet.specs.Rounds.{DidAt, DidAtInPart, stage};
+ghost use Rattle.satl_fleet.specs.Rounds.{CallsNoneAt, DidAt, DidAtInPart, stage};
 ghost use Rattle.satl_fleet.specs.Serving.{CanServe, KeepsUnits, calls_due, target};
 ghost use Rattle.satl_fleet.specs.Shared.{frame_of};
 
@@ -20,7 +20,7 @@ use satl_pages::Pool;
 use std::sync::ledger::Ledger;
 
 /// Carries out what goes to each unit on the unit of this number.
-pub fn serve_at<K: Sink, D: Bench, L: Ledger>(
+pub fn serve_at<K: Sink, D: Bench<L>, L: Ledger>(
     units: &mut Vec<Satl>,
     drives: &mut Vec<D>,
     k: u8,
@@ -41,6 +41,7 @@ pub fn serve_at<K: Sink, D: Bench, L: Ledger>(
     ensures keeps { KeepsUnits (target D.state units.old drives.old) (target D.state units.new drives.new) }
     ensures calls { calls_due (target D.state units.new drives.new) steps.new
         ≤ calls_due (target D.state units.old drives.old) steps.old + calls_allowed (frame_of event.now ∷ []) }
+    ensures uncalled { CallsNoneAt k (frame_of event.now) (target D.state units.old drives.old).units → steps.new ≡ steps.old }
     ensures cause { HasCause (K.faults sink.old) (K.faults sink.new) result }
 {
     let satl = &mut units[k as usize];
@@ -50,7 +51,7 @@ pub fn serve_at<K: Sink, D: Bench, L: Ledger>(
 }
 
 /// Carries out a request on the unit of this number, with pages of that unit. Those of the fleet's pool come back to it.
-pub fn serve_request_at<K: Sink, D: Bench, L: Ledger>(
+pub fn serve_request_at<K: Sink, D: Bench<L>, L: Ledger>(
     units: &mut Vec<Satl>,
     drives: &mut Vec<D>,
     pool: &mut Pool,
@@ -75,6 +76,7 @@ pub fn serve_request_at<K: Sink, D: Bench, L: Ledger>(
     ensures keeps { KeepsUnits (target D.state units.old drives.old) (target D.state units.new drives.new) }
     ensures calls { calls_due (target D.state units.new drives.new) steps.new
         ≤ calls_due (target D.state units.old drives.old) steps.old + calls_allowed (Frame.Request request ∷ []) }
+    ensures uncalled { CallsNoneAt k (Frame.Request request) (target D.state units.old drives.old).units → steps.new ≡ steps.old }
     ensures all_in { OnOk result (pool.new.out ≡ 0) }
     ensures number { number_of pool.new ≡ number_of pool.old }
     ensures cause { HasCause (K.faults sink.old) (K.faults sink.new) result }

@@ -1,12 +1,12 @@
 // One frame over the units of a target.
-ghost use Rattle.std.specs.Prelude.{◌≡◌, ◌≤◌, ◌+◌, ◌*◌, ◌∷◌, [], OnErr, OnOk, length, vec_len};
+ghost use Rattle.std.specs.Prelude.{◌≡◌, ℕ, ◌≤◌, ◌+◌, ◌*◌, ◌∷◌, [], OnErr, OnOk, length, vec_len};
 ghost use Rattle.satl_io.specs.Causes.{HasCause};
 ghost use Rattle.satl_frame.specs.declared.frames.Frame.{Frame};
 ghost use Rattle.satl_frame.specs.Pulls.{frame_pages};
 ghost use Rattle.satl_pages.specs.Counts.{number_of};
 ghost use Rattle.satl_step.specs.Runs.{calls_allowed};
-ghost use Rattle.satl_fleet.specs.Rounds.{AllDid, AllDidInPart, CanRoute, IsTurnOrBench, RoundDone, RoundInPart};
-ghost use Rattle.satl_fleet.specs.Rounds.{frame_calls, stage};
+ghost use Rattle.satl_fleet.specs.Rounds.{AllDid, AllDidInPart, CallsNoneAt, CanRoute, IsTurnOrBench, NoneCalls};
+ghost use Rattle.satl_fleet.specs.Rounds.{RoundDone, RoundInPart, frame_calls, stage};
 ghost use Rattle.satl_fleet.specs.Serving.{CanServe, KeepsUnits, calls_due, target};
 ghost use Rattle.satl_fleet.specs.Shared.{frame_of};
 
@@ -23,7 +23,7 @@ use satl_pages::Pool;
 use std::sync::ledger::Ledger;
 
 /// Carries out an event on each unit in order.
-fn serve_all<K: Sink, D: Bench, L: Ledger>(
+fn serve_all<K: Sink, D: Bench<L>, L: Ledger>(
     units: &mut Vec<Satl>,
     drives: &mut Vec<D>,
     event: &Shared<'_, '_>,
@@ -43,6 +43,8 @@ fn serve_all<K: Sink, D: Bench, L: Ledger>(
     ensures calls { calls_due (target D.state units.new drives.new) steps.new
         ≤ calls_due (target D.state units.old drives.old) steps.old
         + vec_len units.old * calls_allowed (frame_of event.now ∷ []) }
+    ensures uncalled { ((k : ℕ) → CallsNoneAt k (frame_of event.now) (target D.state units.old drives.old).units)
+        → steps.new ≡ steps.old }
     ensures cause { HasCause (K.faults sink.old) (K.faults sink.new) result }
 {
     for k in 0..units.len() as u8 {
@@ -52,7 +54,7 @@ fn serve_all<K: Sink, D: Bench, L: Ledger>(
 }
 
 /// Carries out a request: the target answers REPORT LUNS, and one unit each other command.
-fn serve_request<K: Sink, D: Bench, L: Ledger>(
+fn serve_request<K: Sink, D: Bench<L>, L: Ledger>(
     units: &mut Vec<Satl>,
     drives: &mut Vec<D>,
     pool: &mut Pool,
@@ -75,6 +77,8 @@ fn serve_request<K: Sink, D: Bench, L: Ledger>(
     ensures keeps { KeepsUnits (target D.state units.old drives.old) (target D.state units.new drives.new) }
     ensures calls { calls_due (target D.state units.new drives.new) steps.new
         ≤ calls_due (target D.state units.old drives.old) steps.old + frame_calls (vec_len units.old) (Frame.Request request) }
+    ensures uncalled { NoneCalls (vec_len units.old) (Frame.Request request) (target D.state units.old drives.old).units
+        → steps.new ≡ steps.old }
     ensures all_in { OnOk result (pool.new.out ≡ 0) }
     ensures number { number_of pool.new ≡ number_of pool.old }
     ensures cause { HasCause (K.faults sink.old) (K.faults sink.new) result }
@@ -89,7 +93,7 @@ fn serve_request<K: Sink, D: Bench, L: Ledger>(
 }
 
 /// Carries out a task management function: I_T NEXUS RESET on each unit, and the others on one.
-fn serve_manage<K: Sink, D: Bench, L: Ledger>(
+fn serve_manage<K: Sink, D: Bench<L>, L: Ledger>(
     units: &mut Vec<Satl>,
     drives: &mut Vec<D>,
     manage: Manage,
@@ -108,6 +112,8 @@ fn serve_manage<K: Sink, D: Bench, L: Ledger>(
     ensures keeps { KeepsUnits (target D.state units.old drives.old) (target D.state units.new drives.new) }
     ensures calls { calls_due (target D.state units.new drives.new) steps.new
         ≤ calls_due (target D.state units.old drives.old) steps.old + frame_calls (vec_len units.old) (Frame.Manage manage) }
+    ensures uncalled { NoneCalls (vec_len units.old) (Frame.Manage manage) (target D.state units.old drives.old).units
+        → steps.new ≡ steps.old }
     ensures cause { HasCause (K.faults sink.old) (K.faults sink.new) result }
 {
     if is_for_all(&manage) {
@@ -123,7 +129,7 @@ fn serve_manage<K: Sink, D: Bench, L: Ledger>(
 }
 
 /// The end of an input: of each unit, and then of the output.
-fn serve_end<K: Sink, D: Bench, L: Ledger>(
+fn serve_end<K: Sink, D: Bench<L>, L: Ledger>(
     units: &mut Vec<Satl>,
     drives: &mut Vec<D>,
     sink: &mut K,
@@ -141,6 +147,8 @@ fn serve_end<K: Sink, D: Bench, L: Ledger>(
     ensures keeps { KeepsUnits (target D.state units.old drives.old) (target D.state units.new drives.new) }
     ensures calls { calls_due (target D.state units.new drives.new) steps.new
         ≤ calls_due (target D.state units.old drives.old) steps.old + frame_calls (vec_len units.old) Frame.End }
+    ensures uncalled { NoneCalls (vec_len units.old) Frame.End (target D.state units.old drives.old).units
+        → steps.new ≡ steps.old }
     ensures cause { HasCause (K.faults sink.old) (K.faults sink.new) result }
 {
     serve_all(units, drives, &Shared::End, sink, replies, steps)?;
@@ -150,7 +158,7 @@ fn serve_end<K: Sink, D: Bench, L: Ledger>(
 /// Carries out a frame on the units that it goes to, and tells their answers. The pages that are out of the fleet's pool are
 /// those of the frame; they come back to it. `WriteFault` comes only where the sink's count of faults rose; then units from the
 /// first on did what the frame is to them, one perhaps in part, and those behind that one did nothing (profile).
-pub fn serve_frame<K: Sink, D: Bench, L: Ledger>(
+pub fn serve_frame<K: Sink, D: Bench<L>, L: Ledger>(
     units: &mut Vec<Satl>,
     drives: &mut Vec<D>,
     pool: &mut Pool,
@@ -173,6 +181,8 @@ pub fn serve_frame<K: Sink, D: Bench, L: Ledger>(
     ensures keeps { KeepsUnits (target D.state units.old drives.old) (target D.state units.new drives.new) }
     ensures calls { calls_due (target D.state units.new drives.new) steps.new
         ≤ calls_due (target D.state units.old drives.old) steps.old + frame_calls (vec_len units.old) frame.entry }
+    ensures uncalled { NoneCalls (vec_len units.old) frame.entry (target D.state units.old drives.old).units
+        → steps.new ≡ steps.old }
     ensures all_in { OnOk result (pool.new.out ≡ 0) }
     ensures number { number_of pool.new ≡ number_of pool.old }
     ensures cause { HasCause (K.faults sink.old) (K.faults sink.new) result }
@@ -193,7 +203,7 @@ pub fn serve_frame<K: Sink, D: Bench, L: Ledger>(
 }
 
 /// Turns, or an event of the bench, on each unit.
-fn serve_shared<K: Sink, D: Bench, L: Ledger>(
+fn serve_shared<K: Sink, D: Bench<L>, L: Ledger>(
     units: &mut Vec<Satl>,
     drives: &mut Vec<D>,
     event: &Shared<'_, '_>,
@@ -213,6 +223,8 @@ fn serve_shared<K: Sink, D: Bench, L: Ledger>(
     ensures keeps { KeepsUnits (target D.state units.old drives.old) (target D.state units.new drives.new) }
     ensures calls { calls_due (target D.state units.new drives.new) steps.new
         ≤ calls_due (target D.state units.old drives.old) steps.old + frame_calls (vec_len units.old) (frame_of event.now) }
+    ensures uncalled { NoneCalls (vec_len units.old) (frame_of event.now) (target D.state units.old drives.old).units
+        → steps.new ≡ steps.old }
     ensures cause { HasCause (K.faults sink.old) (K.faults sink.new) result }
 {
     serve_all(units, drives, event, sink, replies, steps)

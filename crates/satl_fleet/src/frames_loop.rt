@@ -21,7 +21,7 @@ use std::sync::ledger::Ledger;
 /// are read into the pool, whose 4,096 pages hold each whole one. The reader has given no frame, and no unit has a task.
 /// `Refused`: the next frame is refused, which is told to nobody, or a read failed, where the source's count of faults rose.
 /// `Write` comes only where the sink's count rose (profile).
-pub fn serve_frames<S: Source, K: Sink, D: Bench, L: Ledger>(
+pub fn serve_frames<S: Source, K: Sink, D: Bench<L>, L: Ledger>(
     alloc: Global,
     reader: &mut FrameReader,
     units: &mut Vec<Satl>,

@@ -13,7 +13,7 @@ use std::sync::ledger::Ledger;
 
 /// Opens a unit on each drive, in order. Each drive has nothing outstanding and is in no error state, and its IDENTIFY DEVICE
 /// data fit it. A fault: the layer was not opened on one of them, for the cause told (SAT-3; profile).
-pub fn open_units<D: Bench, L: Ledger>(
+pub fn open_units<D: Bench<L>, L: Ledger>(
     alloc: Global,
     drives: &mut Vec<D>,
     steps: &mut Steps<L>,

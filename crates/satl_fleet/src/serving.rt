@@ -38,7 +38,7 @@ const POOL_PAGES: u32 = MOST_MOVED;
 /// read or written. `BadInput` comes after its FAULT frame was written, with the reason and the offset of the refused frame in
 /// bytes. `Read` and `Write` come only where the source's or the sink's count of faults rose. The drives are called once each
 /// for their identity, and then as often at most as the frames allow (SAM-5 4.6; profile).
-pub fn serve_fleet<S: Source, K: Sink, D: Bench, L: Ledger>(
+pub fn serve_fleet<S: Source, K: Sink, D: Bench<L>, L: Ledger>(
     alloc: Global,
     source: &mut S,
     sink: &mut K,
@@ -79,7 +79,7 @@ pub fn serve_fleet<S: Source, K: Sink, D: Bench, L: Ledger>(
 }
 
 /// The same on units that were opened: the magic is written, and the frames are carried out up to END.
-fn serve_opened<S: Source, K: Sink, D: Bench, L: Ledger>(
+fn serve_opened<S: Source, K: Sink, D: Bench<L>, L: Ledger>(
     alloc: Global,
     units: &mut Vec<Satl>,
     drives: &mut Vec<D>,

@@ -3,9 +3,10 @@ ghost use Rattle.std.specs.Prelude.{◌≡◌, ◌≤◌, ◌+◌, ◌*◌, ◌�
 ghost use Rattle.satl_io.specs.Causes.{HasCause};
 ghost use Rattle.satl_frame.specs.declared.frames.Frame.{Frame};
 ghost use Rattle.satl_base.specs.Limits.{IsExpectable};
+ghost use Rattle.satl_core.specs.Layer.{view};
 ghost use Rattle.satl_core.specs.Submitting.{CanSubmit};
 ghost use Rattle.satl_core.specs.Turning.{turn_calls};
-ghost use Rattle.satl_step.specs.Events.{IsWholeOf};
+ghost use Rattle.satl_step.specs.Events.{CallsNone, IsWholeOf};
 ghost use Rattle.satl_step.specs.Runs.{calls_allowed};
 ghost use Rattle.satl_step.specs.Serving.{CanServeEvent};
 ghost use Rattle.satl_pages.specs.Counts.{number_of};
@@ -47,7 +48,7 @@ pub fn lend(satl: &mut Satl, pool: &mut Pool, mut request: Request) -> Request
 
 /// Carries out one event on the unit of this number, and tells its answers under its name. `WriteFault` comes only where the
 /// sink's count of faults rose (profile).
-pub fn serve_unit<K: Sink, D: Bench, L: Ledger>(
+pub fn serve_unit<K: Sink, D: Bench<L>, L: Ledger>(
     satl: &mut Satl,
     unit: u8,
     event: Frame<'_>,
@@ -68,6 +69,7 @@ pub fn serve_unit<K: Sink, D: Bench, L: Ledger>(
         (K.written sink.old) (K.written sink.new)) }
     ensures calls { steps.new + turn_calls * length satl.new.tasks
         ≤ steps.old + turn_calls * length satl.old.tasks + calls_allowed (event.entry ∷ []) }
+    ensures uncalled { CallsNone event.entry (view satl.old (D.state drive.old)) → steps.new ≡ steps.old }
     ensures cause { HasCause (K.faults sink.old) (K.faults sink.new) result }
 {
     let mut teller = UnitTeller { unit, named: false };

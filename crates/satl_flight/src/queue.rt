@@ -6,6 +6,7 @@ ghost use Rattle.satl_base.specs.Limits.{most_held, most_tasks};
 ghost use Rattle.satl_base.specs.Lists.{change_at};
 ghost use Rattle.satl_line.specs.Tasks.{Adds, AreOwnSlots, Held, entry_at, is_named, is_too_much, total_blocks, with_body, without_pages};
 ghost use Rattle.satl_flight.specs.Flown.{is_outstanding};
+ghost use Rattle.satl_flight.specs.Leaving.{AreLeft, settle_calls};
 ghost use Rattle.satl_drive.specs.State.{DriveState, IsFit};
 ghost use Rattle.satl_flight.specs.Lending.{AreAlike};
 ghost use Rattle.satl_flight.specs.Queueing.{EndsAndLeaves, IsQueued, IsSlotted, empty};
@@ -57,7 +58,7 @@ impl Queue {
 
     /// Issues the eligible ranged tasks that are not outstanding, in order of arrival, while a tag is free (ACS-3, native
     /// command queuing; profile).
-    pub fn launch<D: Drive, L: Ledger>(
+    pub fn launch<D: Drive<L>, L: Ledger>(
         &mut self,
         drive: &mut D,
         steps: &mut Steps<L>,
@@ -70,6 +71,7 @@ impl Queue {
         ensures emptied { OnErr result (self.new.flying ≡ []) }
         ensures same { self.new.tasks ≡ self.old.tasks }
         ensures fit { IsFit (D.state drive.old) → IsFit (D.state drive.new) }
+        ensures cost { OnOk result (steps.new + length self.old.flying ≡ steps.old + length self.new.flying) }
         ensures steps { steps.new + length self.old.flying ≤ steps.old + 32 }
     {
         self.flight
@@ -78,7 +80,7 @@ impl Queue {
 
     /// Polls once: the task that has ended leaves, into a box. Gives the entry of the error log where it failed. The task that
     /// lay in the box is gone; at a lost link it stays (ACS-3, native command queuing; profile).
-    pub fn settle_one<D: Drive, L: Ledger>(
+    pub fn settle_one<D: Drive<L>, L: Ledger>(
         &mut self,
         task: &mut TaskBox,
         drive: &mut D,
@@ -94,6 +96,8 @@ impl Queue {
         ensures emptied { OnErr result (self.new.flying ≡ []) }
         ensures alike { OnErr result (AreAlike self.old.tasks self.new.tasks) }
         ensures fit { IsFit (D.state drive.new) }
+        ensures left { IfOk result (λ error. AreLeft error self.old.flying self.new.flying) }
+        ensures cost { IfOk result (λ error. steps.new ≡ steps.old + settle_calls error) }
         ensures steps { steps.new ≤ steps.old + 2 }
     {
         let ended = self
@@ -104,7 +108,7 @@ impl Queue {
     }
 
     /// Resets the drive: nothing is outstanding, and each task waits on (ACS-3, software reset).
-    pub fn cut<D: Drive, L: Ledger>(
+    pub fn cut<D: Drive<L>, L: Ledger>(
         &mut self,
         drive: &mut D,
         steps: &mut Steps<L>,
@@ -158,7 +162,7 @@ impl Queue {
 
     /// Issues the last task, and no other, if it is eligible, ranged and not outstanding, and a tag is free. At a lost link all
     /// tasks have their pages back (ACS-3, native command queuing; profile).
-    pub fn launch_last<D: Drive, L: Ledger>(
+    pub fn launch_last<D: Drive<L>, L: Ledger>(
         &mut self,
         drive: &mut D,
         steps: &mut Steps<L>,
@@ -172,6 +176,7 @@ impl Queue {
         ensures emptied { OnErr result (self.new.flying ≡ []) }
         ensures same { self.new.tasks ≡ self.old.tasks }
         ensures fit { IsFit (D.state drive.old) → IsFit (D.state drive.new) }
+        ensures cost { OnOk result (steps.new + length self.old.flying ≡ steps.old + length self.new.flying) }
         ensures steps { steps.new ≤ steps.old + 1 }
     {
         let place = self.set.len() - 1;

@@ -4,6 +4,7 @@ ghost use Rattle.satl_errlog.specs.declared.entry.NcqError.{NcqError};
 ghost use Rattle.satl_errlog.specs.Log.{log_of, log_says};
 ghost use Rattle.satl_drive.specs.State.{IsFit};
 ghost use Rattle.satl_flight.specs.Flown.{IsInFlight};
+ghost use Rattle.satl_flight.specs.Leaving.{AreLeft, settle_calls};
 ghost use Rattle.satl_flight.specs.Lending.{AreAlike, IsLending, waiting, whole_tasks};
 ghost use Rattle.satl_flight.specs.Settled.{HasReadLog, IsLogCutOff, IsLostInFlight, Settles, on_drive};
 
@@ -29,7 +30,7 @@ pub struct Ended {
 impl Flight {
     /// Polls once. The task that has ended has its pages back; after an error, for which the log is read, all tasks have, and
     /// nothing is outstanding (ACS-3, native command queuing).
-    pub fn settle_one<D: Drive, L: Ledger>(
+    pub fn settle_one<D: Drive<L>, L: Ledger>(
         &mut self,
         set: &mut TaskSet,
         dma: &mut Dma,
@@ -48,6 +49,8 @@ impl Flight {
         ensures alike { OnErr result (AreAlike (whole_tasks self.old dma.old set.old) (whole_tasks self.new dma.new set.new)) }
         ensures lending { IsLending self.new dma.new set.new }
         ensures fit { IsFit (D.state drive.new) }
+        ensures left { IfOk result (λ ended. AreLeft ended.error self.old self.new) }
+        ensures cost { IfOk result (λ ended. steps.new ≡ steps.old + settle_calls ended.error) }
         ensures steps { steps.new ≤ steps.old + 2 }
     {
         match drive.poll(dma, steps) {
@@ -79,7 +82,7 @@ impl Flight {
 }
 
 /// Reads the error log, which tells the command that failed and ends the error state (ACS-3 annex A, log 10h).
-fn read_error<D: Drive, L: Ledger>(
+fn read_error<D: Drive<L>, L: Ledger>(
     drive: &mut D,
     log: &mut Pages,
     steps: &mut Steps<L>,

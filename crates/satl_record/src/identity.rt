@@ -17,7 +17,7 @@ use std::sync::ledger::Ledger;
 /// The identity that a drive's IDENTIFY DEVICE data give (profile). `Drive` where they are refused, or the link was lost before
 /// they were read; `NoMemory` where there is none for 512 bytes. The drive is called once at most, and left undisturbed: it is
 /// as it was, but for entries that its sectors may be left with, and, where its link was lost meanwhile, for what that does.
-pub fn told_identity<D: Drive, L: Ledger>(
+pub fn told_identity<D: Drive<L>, L: Ledger>(
     alloc: Global,
     drive: &mut D,
     steps: &mut Steps<L>,

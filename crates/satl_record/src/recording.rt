@@ -21,7 +21,7 @@ use std::sync::ledger::Ledger;
 /// called once at most, and left undisturbed. Each fault but `BadInput` and `Write` leaves the sink as it was: `Drive` comes
 /// first, and then nothing is read; `Read` and `Write` come only where the count of faults rose; `NoMemory` may come at any
 /// time.
-pub fn audit_record<S: Source, K: Sink, D: Drive, L: Ledger>(
+pub fn audit_record<S: Source, K: Sink, D: Drive<L>, L: Ledger>(
     alloc: Global,
     source: &mut S,
     sink: &mut K,

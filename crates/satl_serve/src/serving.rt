@@ -76,7 +76,7 @@ impl From<OpenFault> for ServeFault {
 /// ends so, or by want of memory or a lost link before anything is read, where neither the source's nor the sink's count of
 /// faults rises and the drive is not refused. It gives the totals of the whole input. The drive is called at most once for its
 /// identity, 1,089 times for each request and 33 times for each task management function (profile).
-pub fn serve<S: Source, K: Sink, D: Bench, L: Ledger>(
+pub fn serve<S: Source, K: Sink, D: Bench<L>, L: Ledger>(
     alloc: Global,
     form: Form,
     source: &mut S,
@@ -103,7 +103,7 @@ pub fn serve<S: Source, K: Sink, D: Bench, L: Ledger>(
 
 /// The same for who wants no totals, with the same premise (profile): data-in is not summed then, which is a good part of what
 /// a READ costs.
-pub fn serve_uncounted<S: Source, K: Sink, D: Bench, L: Ledger>(
+pub fn serve_uncounted<S: Source, K: Sink, D: Bench<L>, L: Ledger>(
     alloc: Global,
     form: Form,
     source: &mut S,
@@ -136,7 +136,7 @@ pub fn serve_uncounted<S: Source, K: Sink, D: Bench, L: Ledger>(
 }
 
 /// The same, where a teller tells the answers in the form. Gives the number of requests, which stands still at 2^64 - 1.
-fn serve_by<T: Teller, S: Source, K: Sink, D: Bench, L: Ledger>(
+fn serve_by<T: Teller, S: Source, K: Sink, D: Bench<L>, L: Ledger>(
     alloc: Global,
     form: Form,
     teller: &mut T,
@@ -165,7 +165,7 @@ fn serve_by<T: Teller, S: Source, K: Sink, D: Bench, L: Ledger>(
 }
 
 /// The same, on a layer that was opened: what stands before all answers is written, and the frames are carried out up to END.
-fn serve_opened<T: Teller, S: Source, K: Sink, D: Bench, L: Ledger>(
+fn serve_opened<T: Teller, S: Source, K: Sink, D: Bench<L>, L: Ledger>(
     alloc: Global,
     form: Form,
     teller: &mut T,

@@ -30,7 +30,7 @@ use Rattle.satl_step.specs.Telling.{IsTold, IsToldInPart, Telling}
 use Rattle.satl_step.specs.Events.{Carried, Done, DoneInPart, IsTallied, Scene, SomeTurnsTold, TurnsTold}
 use Rattle.satl_step.specs.Runs.{IsDeep, Stand}
 use Rattle.satl_step.specs.Serving.{WholeOrInPart}
-use Rattle.satl_step.proofs.TallyLemmas.{end_tallied, turns_on, turns_start}
+use Rattle.satl_step.proofs.TallyLemmas.{end_tallied, turns_lost, turns_on, turns_start}
 use Rattle.satl_step.proofs.TellingLemmas.{part_before, part_one, told_more, told_none, told_one, told_part}
 
 pub map-append : (xs ys : List Reply) → map replied (xs ++ ys) ≡ map replied xs ++ map replied ys
@@ -189,7 +189,7 @@ module _ {T : Type 0} (told : T → Answer → List ℕ) (behind : T → Answer 
         deep = max first.deep (depth new);
         turns = subst (λ m. TurnsOf m a.stand.device (first.replies ++ rest.replies) new (max first.deep (depth new))) (omega arith) (more first.turns turn.step);
         covered = λ deep. omega (arith, first.covered deep, rest.covered (first.tallied.queue.covers deep), turn.deep_is, rest.tallied.queue.rises);
-        tallied = turns_on n 1 (n + 1) a.stand b.stand c.stand first.tallied rest.tallied;
+        tallied = turns_on n 1 (n + 1) a.stand b.stand c.stand (turns_lost n _ first.replies _ first.deep first.turns) first.tallied rest.tallied;
         told_so = subst (λ l. IsTold told behind a.telling c.telling l) (sym (map-append first.replies rest.replies)) (told_more told behind a.telling b.telling c.telling (map replied first.replies) (map replied rest.replies) first.told_so rest.told_so);
       }
 
@@ -202,7 +202,7 @@ module _ {T : Type 0} (told : T → Answer → List ℕ) (behind : T → Answer 
     told_some = omega (arith, length-append first.replies rest.replies, rest.told_some);
     deep = max first.deep (depth c.stand.device);
     turns = more first.turns (one_turn rest.taken b.stand.device c.stand.device rest.replies rest.deep (omega (arith, rest.some, rest.most)) rest.turns).step;
-    tallied = turns_on n 1 count a.stand b.stand c.stand first.tallied rest.tallied;
+    tallied = turns_on n 1 count a.stand b.stand c.stand (turns_lost n _ first.replies _ first.deep first.turns) first.tallied rest.tallied;
     told_so = subst (λ l. IsToldInPart told behind a.telling c.telling l) (sym (map-append first.replies rest.replies)) (told_part told behind a.telling b.telling c.telling (map replied first.replies) (map replied rest.replies) first.told_so rest.told_so);
   }
 

@@ -23,7 +23,7 @@ use Rattle.satl_direct.specs.Run.RunInPart.{one_event_more}
 -- ---- what an event counts of a whole one
 
 pub tallied_whole : (room : ℕ) (a b : Stand) (event whole : Frame) → event ≡ cut_to room whole → IsTallied event a b → IsTallied whole a b
-tallied_whole room a b event (frames.Request w) is tallied = let x = subst (λ f. IsTallied f a b) is tallied in record { faults = x.faults; unplugs = x.unplugs; orders = x.orders; calls = x.calls; queue = x.queue }
+tallied_whole room a b event (frames.Request w) is tallied = let x = subst (λ f. IsTallied f a b) is tallied in record { faults = x.faults; unplugs = x.unplugs; orders = x.orders; calls = x.calls; uncalled = x.uncalled; queue = x.queue }
 tallied_whole room a b event (frames.Manage m) is tallied = subst (λ f. IsTallied f a b) is tallied
 tallied_whole room a b event (frames.Turn n) is tallied = subst (λ f. IsTallied f a b) is tallied
 tallied_whole room a b event (frames.Bench e) is tallied = subst (λ f. IsTallied f a b) is tallied

@@ -1,5 +1,5 @@
 -- One event on one unit: what it does, how its answers are told, and what is counted (profile).
-use Rattle.std.specs.Prelude.{◌≡◌, ◌⊎◌, ℕ, ◌+◌, ◌*◌, ◌≤◌, List, [], ◌∷◌, length, map, Option}
+use Rattle.std.specs.Prelude.{◌≡◌, ◌⊎◌, ℕ, ◌+◌, ◌*◌, ◌≤◌, true, List, [], ◌∷◌, length, map, Option}
 use Rattle.satl_base.specs.declared.reply.Reply.{Reply}
 use Rattle.satl_io.specs.Causes.{RoseBy}
 use Rattle.satl_frame.specs.declared.frames.Frame.{Frame}
@@ -8,6 +8,7 @@ use Rattle.satl_frame.specs.Output.{Answer}
 use Rattle.satl_frame.specs.Output.Answer.{replied}
 use Rattle.satl_frame.specs.Pulls.{cut_to}
 use Rattle.satl_drive.specs.State.{DriveState}
+use Rattle.satl_direct.specs.Device.{Device}
 use Rattle.satl_direct.specs.Run.{Does, DoesShort, TurnsOf, losses_in}
 use Rattle.satl_core.specs.Benching.{unplugs_after}
 use Rattle.satl_core.specs.Layer.{Layer}
@@ -49,15 +50,21 @@ abbrev pub unplugs_behind : Frame → ℕ → ℕ
 unplugs_behind (frames.Bench event) before = unplugs_after event before
 unplugs_behind _ before = before
 
+-- no event of the bench calls the drive, and no other one where the link was lost before it (profile)
+abbrev pub CallsNone : Frame → Device → Type 0
+CallsNone (frames.Bench event) s = Unit {0}
+CallsNone _ s = s.down ≡ true
+
 -- an event raised the count of faults by its losses; the drive was unplugged by it alone, and took its order bytes alone; and
--- the drive was called as often at most as it allows, and a turn for each task that is gone; its deepest queue did not fall
--- (profile)
+-- the drive was called as often at most as it allows, and a turn for each task that is gone, and not at all where it calls
+-- none; its deepest queue did not fall (profile)
 pub record IsTallied (event : Frame) (before after : Stand) : Type 0 where
   pub faults : RoseBy (losses_in event before.device after.device) before.tally.faults after.tally.faults
   pub unplugs : after.tally.unplugs ≡ unplugs_behind event before.tally.unplugs
   pub orders : after.tally.orders ≡ orders_behind event before.tally.orders
   pub calls : after.tally.calls + turn_calls * length after.device.tasks
       ≤ before.tally.calls + turn_calls * length before.device.tasks + calls_allowed (event ∷ [])
+  pub uncalled : CallsNone event before.device → after.tally.calls ≡ before.tally.calls
   pub queue : KeepsDeepest before.tally after.tally
 
 -- an event was carried out and counted, and its answers were told (profile)

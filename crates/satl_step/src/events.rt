@@ -16,7 +16,7 @@ use satl_io::Sink;
 use std::sync::ledger::Ledger;
 
 /// A request arrives.
-fn serve_request<T: Teller, K: Sink, D: Drive, L: Ledger>(
+fn serve_request<T: Teller, K: Sink, D: Drive<L>, L: Ledger>(
     satl: &mut Satl,
     request: Request,
     teller: &mut T,
@@ -39,7 +39,7 @@ fn serve_request<T: Teller, K: Sink, D: Drive, L: Ledger>(
 }
 
 /// A task management function is carried out.
-fn serve_manage<T: Teller, K: Sink, D: Drive, L: Ledger>(
+fn serve_manage<T: Teller, K: Sink, D: Drive<L>, L: Ledger>(
     satl: &mut Satl,
     manage: Manage,
     teller: &mut T,
@@ -62,7 +62,7 @@ fn serve_manage<T: Teller, K: Sink, D: Drive, L: Ledger>(
 }
 
 /// Something happens to the drive.
-fn serve_bench<T: Teller, K: Sink, D: Bench, L: Ledger>(
+fn serve_bench<T: Teller, K: Sink, D: Bench<L>, L: Ledger>(
     satl: &mut Satl,
     event: &BenchEvent<'_>,
     teller: &mut T,
@@ -87,7 +87,7 @@ fn serve_bench<T: Teller, K: Sink, D: Bench, L: Ledger>(
 /// Carries out one event on one unit, and tells the answers of each frame before it returns. `WriteFault` comes only where the
 /// sink's count of faults rose; then a front of the answers was told, of which there is one at least, and the event was carried
 /// out in whole, or was cut short behind one of its turns (profile).
-pub fn serve_event<T: Teller, K: Sink, D: Bench, L: Ledger>(
+pub fn serve_event<T: Teller, K: Sink, D: Bench<L>, L: Ledger>(
     satl: &mut Satl,
     event: Frame<'_>,
     teller: &mut T,

@@ -18,7 +18,7 @@ use satl_io::Sink;
 use std::sync::ledger::Ledger;
 
 /// One turn.
-fn serve_turn<T: Teller, K: Sink, D: Drive, L: Ledger>(
+fn serve_turn<T: Teller, K: Sink, D: Drive<L>, L: Ledger>(
     satl: &mut Satl,
     teller: &mut T,
     sink: &mut K,
@@ -40,7 +40,7 @@ fn serve_turn<T: Teller, K: Sink, D: Drive, L: Ledger>(
 }
 
 /// So many turns, each told before the next.
-pub fn serve_turns<T: Teller, K: Sink, D: Drive, L: Ledger>(
+pub fn serve_turns<T: Teller, K: Sink, D: Drive<L>, L: Ledger>(
     satl: &mut Satl,
     count: u16,
     teller: &mut T,
@@ -66,7 +66,7 @@ pub fn serve_turns<T: Teller, K: Sink, D: Drive, L: Ledger>(
 }
 
 /// Turns until no task waits, and the end of the output.
-pub fn serve_end<T: Teller, K: Sink, D: Drive, L: Ledger>(
+pub fn serve_end<T: Teller, K: Sink, D: Drive<L>, L: Ledger>(
     satl: &mut Satl,
     teller: &mut T,
     sink: &mut K,

@@ -31,7 +31,7 @@ fn status_of_record(ended: Result<Verdict, RecordFault>) -> Status
 }
 
 /// Judges the record that was handed in for a device of the drive's identity, and says in a line what was found.
-pub fn judge_record<S: Source, K: Sink, D: Drive, L: Ledger>(
+pub fn judge_record<S: Source, K: Sink, D: Drive<L>, L: Ledger>(
     alloc: Global,
     source: &mut S,
     sink: &mut K,

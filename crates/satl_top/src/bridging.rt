@@ -16,7 +16,7 @@ use std::sync::ledger::Ledger;
 /// the source. The drive has nothing outstanding and is in no error state, and its IDENTIFY DEVICE data fit it. `Done`: all was
 /// items. `BadInput`: the items before what is refused were carried out, and nothing was written for that. `NoMemory` and
 /// `DriveRefused`: nothing was read or written (profile).
-pub fn bridge<S: Source, K: Sink, D: Bench, L: Ledger>(
+pub fn bridge<S: Source, K: Sink, D: Bench<L>, L: Ledger>(
     alloc: Global,
     source: &mut S,
     sink: &mut K,

@@ -11,6 +11,6 @@ mod top;
 
 pub use bridging::bridge;
 pub use loading::load;
-pub use several::{counted_program, fleet, is_fleet, program};
+pub use several::{fleet, is_fleet, program};
 pub use status::Status;
 pub use top::satl;

@@ -35,7 +35,7 @@ impl Sink for Nowhere {
 
 /// Serves a generated input, and counts its answers alone. It stops before the end of the input only where the layer is not
 /// opened, and then nothing was served.
-fn serve_generated<D: Bench, L: Ledger>(
+fn serve_generated<D: Bench<L>, L: Ledger>(
     alloc: Global,
     seed: u64,
     requests: u32,
@@ -62,7 +62,7 @@ fn serve_generated<D: Bench, L: Ledger>(
 /// DEVICE data fit it. `Done`: all that was done. `WriteFault`: the input was served whole, but of the lines only a front was
 /// written. `NoMemory` and `DriveRefused`: nothing was served or written. No other status comes. The drive is called at most
 /// once for its identity, and 1,089 times for each request (profile).
-pub fn load<K: Sink, D: Bench, L: Ledger>(
+pub fn load<K: Sink, D: Bench<L>, L: Ledger>(
     alloc: Global,
     seed: u64,
     requests: u32,

@@ -16,7 +16,7 @@ use satl_fleet::serve_fleet;
 use satl_io::{Sink, Source};
 use std::alloc::Global;
 use std::rc::RcStr;
-use std::sync::ledger::{Blank, Ledger};
+use std::sync::ledger::Ledger;
 
 fn is_word(word: &RcStr, text: &str) -> bool
     ensures { (result ≡ true) ↔ (rc_str_bytes word.now ≡ text.now) }
@@ -38,7 +38,7 @@ pub fn is_fleet(words: &[RcStr]) -> bool
 /// Serves the frames of the source on one to four drives as the logical units of one target, and writes the answers to the sink
 /// (profile). `Usage` comes exactly where the words are not those of the fleet, and then nothing was done. The status says how
 /// it ended. Each drive has nothing outstanding and is in no error state, and its IDENTIFY DEVICE data fit it.
-pub fn fleet<S: Source, K: Sink, D: Bench, L: Ledger>(
+pub fn fleet<S: Source, K: Sink, D: Bench<L>, L: Ledger>(
     alloc: Global,
     words: &[RcStr],
     source: &mut S,
@@ -69,7 +69,7 @@ pub fn fleet<S: Source, K: Sink, D: Bench, L: Ledger>(
 /// Does all that the program does (profile): the words of the fleet serve all drives, and all others what `satl` does with the
 /// first drive, where the other drives stay as they are. The status says how it ended. Each drive has nothing outstanding and
 /// is in no error state, and its IDENTIFY DEVICE data fit it.
-pub fn program<S: Source, K: Sink, D: Bench, L: Ledger>(
+pub fn program<S: Source, K: Sink, D: Bench<L>, L: Ledger>(
     alloc: Global,
     words: &[RcStr],
     source: &mut S,
@@ -93,32 +93,4 @@ pub fn program<S: Source, K: Sink, D: Bench, L: Ledger>(
     }
     let first = &mut drives[0];
     satl(alloc, words, source, sink, first, steps)
-}
-
-/// The same, and the drive calls are counted from none on a blank page of a ledger, which is given up: how many there were is
-/// not told (profile).
-pub fn counted_program<S: Source, K: Sink, D: Bench, L: Ledger>(
-    alloc: Global,
-    words: &[RcStr],
-    source: &mut S,
-    sink: &mut K,
-    drives: &mut Vec<D>,
-    blank: Blank,
-) -> Status
-    requires some { 1 ≤ vec_len drives.old }
-    requires few { vec_len drives.old ≤ 4 }
-    requires free { AllByRecursion IsFree (map D.state drives.old.items) }
-    requires name { blank.name ≡ L.name }
-    requires parts { blank.parts ≡ L.parts }
-    requires enough { 0 < blank.parts }
-    ensures { (calls : ℕ) × HasDone (map rc_str_bytes words.now) input_limit
-        (fleet_moment (source_state (S.left source.old) (S.faults source.old))
-        (sink_state (K.written sink.old) (K.faults sink.old))
-        0 (map D.state drives.old.items))
-        (fleet_moment (source_state (S.left source.new) (S.faults source.new))
-        (sink_state (K.written sink.new) (K.faults sink.new))
-        calls (map D.state drives.new.items)) result }
-{
-    let mut steps = Steps::<L>::new(blank);
-    program(alloc, words, source, sink, drives, &mut steps)
 }

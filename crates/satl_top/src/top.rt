@@ -29,7 +29,7 @@ use std::sync::ledger::Ledger;
 /// totals, and reads nothing. Plain words mean what they spell, and all others what clap makes of them. The drive has nothing
 /// outstanding and is in no error state, and its IDENTIFY DEVICE data fit it. The status says how that ended. The drive is
 /// called at most once for its identity, 1,089 times for each request and 33 times for each task management function.
-pub fn satl<S: Source, K: Sink, D: Bench, L: Ledger>(
+pub fn satl<S: Source, K: Sink, D: Bench<L>, L: Ledger>(
     alloc: Global,
     words: &[RcStr],
     source: &mut S,
@@ -61,7 +61,7 @@ pub fn satl<S: Source, K: Sink, D: Bench, L: Ledger>(
 }
 
 /// Carries out a mode.
-fn carry_out<S: Source, K: Sink, D: Bench, L: Ledger>(
+fn carry_out<S: Source, K: Sink, D: Bench<L>, L: Ledger>(
     alloc: Global,
     mode: Mode,
     source: &mut S,
@@ -87,7 +87,7 @@ fn carry_out<S: Source, K: Sink, D: Bench, L: Ledger>(
 }
 
 /// Serves the input that was handed in.
-fn serve_input<S: Source, K: Sink, D: Bench, L: Ledger>(
+fn serve_input<S: Source, K: Sink, D: Bench<L>, L: Ledger>(
     alloc: Global,
     form: Form,
     source: &mut S,

@@ -1,11 +1,11 @@
 -- What the bridge has done so far.
 use Rattle.std.proofs.Common.{◌≡◌, refl, sym, ap, subst, ◌∙◌, append_assoc, arith, inl, inr, ℕ, ◌+◌, ◌≤◌, true, false, List, [], ◌∷◌, ◌++◌, length, take}
 use Rattle.std.specs.Prelude.{Option, None, Some}
-use Rattle.std.proofs.lemmas.List.{append-nil, length-append}
+use Rattle.std.proofs.lemmas.List.{append-nil, flat_map_more, length-append}
 use Rattle.arrayvec.specs.ArrayVec.{ArrayVec}
 use Rattle.satl_base.specs.declared.request.Request.{Request}
 use Rattle.satl_io.specs.Known.{Took, Wrote}
-use Rattle.satl_io.proofs.Joined.{Took-more, Took-none, Wrote-more, Wrote-none, WrotePart-more}
+use Rattle.satl_io.proofs.Joined.{Took-more, Took-none, Wrote-more, Wrote-none}
 use Rattle.satl_bot.specs.declared.command.Cbw.{Cbw}
 use Rattle.satl_frame.specs.DataPages.{pages_of}
 use Rattle.satl_frame.specs.declared.frames.Frame.{Frame}
@@ -16,7 +16,7 @@ use Rattle.satl_step.specs.Events.{IsWholeOf}
 use Rattle.satl_step.specs.Runs.{IsDeep, RunSoFar, Stand}
 use Rattle.satl_step.proofs.RunLemmas.{run_more, run_start}
 use Rattle.satl_usb.specs.Answering.{Answered, AnsweredInPart, desk, point, request_taken}
-use Rattle.satl_usb.specs.Bridge.{Bridged, BridgedInPart, BridgedWhole, HasTaken, Talk, talk_of}
+use Rattle.satl_usb.specs.Bridge.{Bridged, BridgedInPart, BridgedWhole, HasTaken, Talk, talk_of, wire_of}
 use Rattle.satl_usb.specs.Exchanges.{Exchange, is_told_kept, request_of}
 use Rattle.satl_usb.specs.Exchanges.Exchange.{start, asked, sent}
 use Rattle.satl_usb.specs.Items.{AreItems, IsItem, Item, bytes_of_items, item_bytes, sent_length}
@@ -28,8 +28,7 @@ use Rattle.satl_usb.specs.declared.items.Taken.{Taken}
 -- ---- items that were taken
 
 pub bytes_of_items-push : (items : List Item) (i : Item) → bytes_of_items (items ++ i ∷ []) ≡ bytes_of_items items ++ item_bytes i
-bytes_of_items-push [] i = append-nil (item_bytes i)
-bytes_of_items-push (x ∷ items) i = ap (λ l. item_bytes x ++ l) (bytes_of_items-push items i) ∙ sym (append_assoc (item_bytes x) (bytes_of_items items) (item_bytes i))
+bytes_of_items-push items i = sym (flat_map_more item_bytes [] items i)
 
 are_items-push : (limit offset : ℕ) (items : List Item) (i : Item) → AreItems limit offset items → IsItem i → offset + length (bytes_of_items items) + length (item_bytes i) ≤ limit → AreItems limit offset (items ++ i ∷ [])
 are_items-push limit offset [] i each is fits = (is, omega (arith, fits), tt)
@@ -65,7 +64,7 @@ run_both a b c events groups r w run whole both =
 
 -- what became of items, and of one more
 abbrev said : Talk → Item → List ℕ → Option (ArrayVec ℕ) → Talk
-said t i more kept = talk_of (t.items ++ i ∷ []) (t.wire ++ more) kept
+said t i answer kept = talk_of (t.items ++ i ∷ []) (t.told ++ answer ∷ []) kept
 
 bridged_asked : (limit : ℕ) (a b c : Spot) (t : Talk) (i : Item) (sense : ArrayVec ℕ) → Bridged limit a b t → HasTaken limit a.left c.left (t.items ++ i ∷ []) → t.kept ≡ Some sense → is_told_kept t.kept i.command ≡ true → c.stand ≡ b.stand
     → Bridged limit a c (said t i (kept_on_wire i.command sense) None)
@@ -73,7 +72,7 @@ bridged_asked limit a b c t i sense so taken was asks same = record {
   events = so.events;
   groups = so.groups;
   taken = taken;
-  exchange = asked i sense (subst (Exchange t.items so.events so.groups t.wire) was so.exchange) (ap (λ k. is_told_kept k i.command) (sym was) ∙ asks);
+  exchange = asked i sense (subst (Exchange t.items so.events so.groups t.told) was so.exchange) (ap (λ k. is_told_kept k i.command) (sym was) ∙ asks);
   run = subst (λ s. RunSoFar a.stand s so.events so.groups) (sym same) so.run;
   idle = ap (λ (s : Stand). s.device.tasks) same ∙ so.idle;
   unplugs = ap (λ (s : Stand). s.tally.unplugs) same ∙ so.unplugs;
@@ -97,15 +96,18 @@ bridged_sent limit a b c t i r so taken other whole both = record {
 
 pub record Going (limit : ℕ) (before now : Spot) (kept : Option (ArrayVec ℕ)) (offset : ℕ) : Type 0 where
   pub items : List Item
-  pub wire : List ℕ
-  pub bridged : Bridged limit before now (talk_of items wire kept)
+  pub told : List (List ℕ)
+  pub bridged : Bridged limit before now (talk_of items told kept)
   pub at : offset ≡ length (bytes_of_items items)
-  pub wrote : Wrote before.written now.written wire
+  pub wrote : Wrote before.written now.written (wire_of told)
+
+wrote_more : (a b c : Option (List ℕ)) (told : List (List ℕ)) (answer : List ℕ) → Wrote a b (wire_of told) → Wrote b c answer → Wrote a c (wire_of (told ++ answer ∷ []))
+wrote_more a b c told answer first second = subst (Wrote a c) (flat_map_more (λ one. one) [] told answer) (Wrote-more first second)
 
 pub going_start : (limit : ℕ) (a : Spot) → a.stand.device.tasks ≡ [] → Going limit a a None 0
 going_start limit a idle = record {
   items = [];
-  wire = [];
+  told = [];
   bridged = record { events = []; groups = []; taken = record { took = Took-none a.left; each = tt }; exchange = start; run = run_start a.stand idle; idle = idle; unplugs = refl; orders = refl };
   at = refl;
   wrote = Wrote-none a.written;
@@ -117,7 +119,7 @@ going_same limit a b s kept offset same g = subst (λ (x : Stand). Going limit a
 
 module _ (limit offset room : ℕ) (a b c : Spot) (kept : Option (ArrayVec ℕ)) (taken : Taken) (g : Going limit a b kept offset) (t : TookItem limit offset room b.left c.left taken) where
   abbrev talk : Talk
-  talk = talk_of g.items g.wire kept
+  talk = talk_of g.items g.told kept
 
   all_taken : HasTaken limit a.left c.left (g.items ++ t.item ∷ [])
   all_taken = taken_more limit offset room a.left b.left c.left g.items taken g.at g.bridged.taken t
@@ -145,30 +147,42 @@ module _ (limit offset room : ℕ) (a b c : Spot) (kept : Option (ArrayVec ℕ))
   pub going_more : (kept' : Option (ArrayVec ℕ)) (end : ℕ) → Answered taken (desk (point b.stand b.written) kept) (desk (point c.stand c.written) kept') → end ≡ offset + 31 + sent_length taken.command → Going limit a c kept' end
   going_more kept' end (inl r) is = record {
     items = g.items ++ t.item ∷ [];
-    wire = g.wire ++ kept_on_wire taken.command r.sense;
+    told = g.told ++ kept_on_wire taken.command r.sense ∷ [];
     bridged = subst (λ k. Bridged limit a c (said talk t.item (kept_on_wire taken.command r.sense) k)) (sym r.kept_is) (asked_bridged r.sense r.was_kept r.asks r.stays);
     at = further end is;
-    wrote = Wrote-more g.wrote r.wrote;
+    wrote = wrote_more a.written b.written c.written g.told (kept_on_wire taken.command r.sense) g.wrote r.wrote;
   }
   going_more kept' end (inr (other, r)) is = record {
     items = g.items ++ t.item ∷ [];
-    wire = g.wire ++ reply_on_wire taken.command r.both.reply;
+    told = g.told ++ reply_on_wire taken.command r.both.reply ∷ [];
     bridged = subst (λ k. Bridged limit a c (said talk t.item (reply_on_wire taken.command r.both.reply) k)) (sym r.kept_is) (sent_bridged other r.both);
     at = further end is;
-    wrote = Wrote-more g.wrote r.wrote;
+    wrote = wrote_more a.written b.written c.written g.told (reply_on_wire taken.command r.both.reply) g.wrote r.wrote;
   }
 
   -- or in part
   pub stopped_in_part : AnsweredInPart taken (desk (point b.stand b.written) kept) (point c.stand c.written) → BridgedInPart limit a c
   stopped_in_part (inl r) = record {
-    talk = said talk t.item (kept_on_wire taken.command r.sense) None;
+    earlier = g.items;
+    last = t.item;
+    due = g.told;
+    answer = kept_on_wire taken.command r.sense;
+    kept = None;
+    behind = b.written;
     bridged = asked_bridged r.sense r.was_kept r.asks r.stays;
-    part = WrotePart-more g.wrote r.part;
+    wrote = g.wrote;
+    part = r.part;
   }
   stopped_in_part (inr (other, r)) = record {
-    talk = said talk t.item (reply_on_wire taken.command r.both.reply) (kept_of r.both.reply);
+    earlier = g.items;
+    last = t.item;
+    due = g.told;
+    answer = reply_on_wire taken.command r.both.reply;
+    kept = kept_of r.both.reply;
+    behind = b.written;
     bridged = sent_bridged other r.both;
-    part = WrotePart-more g.wrote r.part;
+    wrote = g.wrote;
+    part = r.part;
   }
 
 -- an item ends within the limit
@@ -185,7 +199,7 @@ within_limit limit offset room end left left' taken t is =
 -- at the end of the source
 pub bridged_whole : (limit offset : ℕ) (a b : Spot) (left : Option (List ℕ)) (kept : Option (ArrayVec ℕ)) → IsDeep a.stand.tally → Going limit a b kept offset → WasAtEnd b.left left → BridgedWhole limit a (record b { left = left })
 bridged_whole limit offset a b left kept deep g e = record {
-  talk = talk_of g.items g.wire kept;
+  talk = talk_of g.items g.told kept;
   bridged = record { events = g.bridged.events; groups = g.bridged.groups; taken = taken_none limit a.left b.left left g.items g.bridged.taken e.took; exchange = g.bridged.exchange; run = g.bridged.run; idle = g.bridged.idle; unplugs = g.bridged.unplugs; orders = g.bridged.orders };
   at_end = e.end;
   wrote = g.wrote;

@@ -1,5 +1,5 @@
 -- The bridge from before the layer was opened.
-use Rattle.std.proofs.Common.{◌≡◌, ap, ◌∙◌, ℕ, ◌+◌, ◌≤◌}
+use Rattle.std.proofs.Common.{◌≡◌, ap, ◌∙◌, ℕ, ◌+◌, ◌≤◌, [], ◌∷◌, ◌++◌}
 use Rattle.satl_drive.specs.State.{DriveState}
 use Rattle.satl_direct.specs.Device.{Device}
 use Rattle.satl_core.specs.Layer.{Layer, Tied, view}
@@ -9,7 +9,7 @@ use Rattle.satl_serve.specs.Moments.{Moment, Spot, spot_at}
 use Rattle.satl_serve.specs.Runs.{Serves}
 use Rattle.satl_serve.proofs.ServingLemmas.{first_of, left_as, sooner}
 use Rattle.satl_step.specs.Runs.{IsDeep, Tally, tally_of}
-use Rattle.satl_usb.specs.Bridge.{Bridged, BridgedBefore, BridgedInPart, BridgedUpTo, BridgedWhole, Talk}
+use Rattle.satl_usb.specs.Bridge.{Bridged, BridgedBefore, BridgedInPart, BridgedUpTo, BridgedWhole, Talk, talk_of}
 use Rattle.satl_usb.specs.Headline.{IsStopped, RanTo}
 use Rattle.satl_usb.specs.declared.fault.UsbFault.{UsbFault}
 use Rattle.satl_usb.specs.declared.fault.UsbFault.TheVariants as faults
@@ -61,4 +61,4 @@ module _ (limit : ℕ) (before after : Moment) (mid_drive : DriveState) (opened 
   stops (faults.Open opening) r = absurd r
   stops (faults.BadInput offset) r = serves (BridgedBefore limit offset) (record { talk = r.talk; mid = r.mid; bridged = earlier (record b { left = r.mid }) r.talk r.bridged; offset_is = r.offset_is; refused = r.refused; front = r.front; wrote = r.wrote })
   stops faults.Read r = serves (BridgedUpTo limit) (record { talk = r.talk; mid = r.mid; bridged = earlier (record b { left = r.mid }) r.talk r.bridged; cut_off = r.cut_off; wrote = r.wrote })
-  stops faults.Write r = serves (BridgedInPart limit) (record { talk = r.talk; bridged = earlier b r.talk r.bridged; part = r.part })
+  stops faults.Write r = serves (BridgedInPart limit) (record { earlier = r.earlier; last = r.last; due = r.due; answer = r.answer; kept = r.kept; behind = r.behind; bridged = earlier b (talk_of (r.earlier ++ r.last ∷ []) (r.due ++ r.answer ∷ []) r.kept) r.bridged; wrote = r.wrote; part = r.part })

@@ -86,7 +86,7 @@ idle_turn a empty =
     carried_turns 1 a a [] (max 0 (depth a.device)) (more none (record { before = a.device; after = a.device; quiet_before = quiet_none a.device; step = idle empty; quiet_after = quiet_none a.device })) (λ deep. omega (arith, flat)) (λ deep. omega (arith, flat))
 
 idle_tallied : (a : Stand) → IsTallied (frames.Turn 1) a a
-idle_tallied a = record { faults = counted_same a.device a.device _ _ refl refl; unplugs = refl; orders = refl; calls = omega arith; queue = covers_same a }
+idle_tallied a = record { faults = counted_same a.device a.device _ _ refl refl; unplugs = refl; orders = refl; calls = omega arith; uncalled = λ lost. refl; queue = covers_same a }
 
 -- a turn that was cut short was taken
 short_turn : (r : Request) (a b c : Stand) (first second : List Answer) → a.device.tasks ≡ [] → Carried (frames.Request r) a first b → DoesShort (frames.Turn 1) b.device second c.device → Carried (frames.Turn 1) b second c

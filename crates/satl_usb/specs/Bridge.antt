@@ -1,5 +1,6 @@
 -- What the bridge does with an input: a run of the device over its items, whose replies are written (profile).
-use Rattle.std.specs.Prelude.{◌≡◌, ℕ, ◌≤◌, List, [], length, Option}
+use Rattle.std.specs.Prelude.{◌≡◌, ℕ, ◌≤◌, List, [], ◌∷◌, ◌++◌, length, Option}
+use Rattle.std.specs.List.{flat_map}
 use Rattle.std.specs.Io.KnownBytes.{IsAtEnd}
 use Rattle.arrayvec.specs.ArrayVec.{ArrayVec}
 use Rattle.satl_io.specs.Known.{Took, Wrote, WrotePart}
@@ -16,14 +17,18 @@ pub record HasTaken (limit : ℕ) (left left' : Option (List ℕ)) (items : List
   pub took : Took left left' (bytes_of_items items)
   pub each : AreItems limit 0 items
 
--- what became of items: which they are, what they are on the wire, and the sense data that is then kept (profile)
+-- what became of items: which they are, what each is on the wire, and the sense data that is then kept (profile)
 pub record Talk : Type 0 where
   pub items : List Item
-  pub wire : List ℕ
+  pub told : List (List ℕ)
   pub kept : Option (ArrayVec ℕ)
 
-abbrev pub talk_of : List Item → List ℕ → Option (ArrayVec ℕ) → Talk
-talk_of items wire kept = record { items = items; wire = wire; kept = kept }
+abbrev pub talk_of : List Item → List (List ℕ) → Option (ArrayVec ℕ) → Talk
+talk_of items told kept = record { items = items; told = told; kept = kept }
+
+-- the wire: what each item is on it, one after the other (profile)
+abbrev pub wire_of : List (List ℕ) → List ℕ
+wire_of told = flat_map (λ one. one) told
 
 -- items were taken and carried out: a run of the device over their requests and turns, each of which has exactly one reply; no
 -- task is left; the drive was not unplugged, and no order bytes were handed in to it (profile)
@@ -31,7 +36,7 @@ pub record Bridged (limit : ℕ) (before after : Spot) (talk : Talk) : Type 0 wh
   pub events : List Frame
   pub groups : List (List Answer)
   pub taken : HasTaken limit before.left after.left talk.items
-  pub exchange : Exchange talk.items events groups talk.wire talk.kept
+  pub exchange : Exchange talk.items events groups talk.told talk.kept
   pub run : RunSoFar before.stand after.stand events groups
   pub idle : after.stand.device.tasks ≡ []
   pub unplugs : after.stand.tally.unplugs ≡ before.stand.tally.unplugs
@@ -43,7 +48,7 @@ pub record BridgedWhole (limit : ℕ) (before after : Spot) : Type 0 where
   pub talk : Talk
   pub bridged : Bridged limit before after talk
   pub at_end : IsAtEnd after.left
-  pub wrote : Wrote before.written after.written talk.wire
+  pub wrote : Wrote before.written after.written (wire_of talk.told)
   pub deep : bridged.run.deep ≤ after.stand.tally.deepest
 
 -- the items before an offset were taken and carried out, and what they are on the wire was written; what stands at the offset
@@ -55,7 +60,7 @@ pub record BridgedBefore (limit offset : ℕ) (before after : Spot) : Type 0 whe
   pub offset_is : offset ≡ length (bytes_of_items talk.items)
   pub refused : HasNoItem limit offset mid
   pub front : TookAsked limit offset mid after.left
-  pub wrote : Wrote before.written after.written talk.wire
+  pub wrote : Wrote before.written after.written (wire_of talk.told)
 
 -- the same, and a read failed before all was taken that is asked for of the next item (profile)
 pub record BridgedUpTo (limit : ℕ) (before after : Spot) : Type 0 where
@@ -63,10 +68,17 @@ pub record BridgedUpTo (limit : ℕ) (before after : Spot) : Type 0 where
   pub mid : Option (List ℕ)
   pub bridged : Bridged limit before (record after { left = mid }) talk
   pub cut_off : FewerThan mid after.left (asked_of_item limit (length (bytes_of_items talk.items)))
-  pub wrote : Wrote before.written after.written talk.wire
+  pub wrote : Wrote before.written after.written (wire_of talk.told)
 
--- items were taken and carried out, and a front of what they are on the wire was written (profile)
+-- items were taken and carried out, a last one behind earlier ones; what the earlier ones are on the wire was written whole,
+-- and of what the last one is a front (profile)
 pub record BridgedInPart (limit : ℕ) (before after : Spot) : Type 0 where
-  pub talk : Talk
-  pub bridged : Bridged limit before after talk
-  pub part : WrotePart before.written after.written talk.wire
+  pub earlier : List Item
+  pub last : Item
+  pub due : List (List ℕ)
+  pub answer : List ℕ
+  pub kept : Option (ArrayVec ℕ)
+  pub behind : Option (List ℕ)
+  pub bridged : Bridged limit before after (talk_of (earlier ++ last ∷ []) (due ++ answer ∷ []) kept)
+  pub wrote : Wrote before.written behind (wire_of due)
+  pub part : WrotePart behind after.written answer

@@ -36,20 +36,20 @@ request_of i = record {
 abbrev pub item_events : Item → List Frame
 item_events i = frames.Request (request_of i) ∷ frames.Turn 1 ∷ []
 
--- items one after the other: the events that they are, the answers to each of these, what is written, and the sense data that
--- is then kept. An item is answered with what is kept, and is no event; or it is a request and a turn, to which exactly one
--- reply is given (profile)
-pub data Exchange : List Item → List Frame → List (List Answer) → List ℕ → Option (ArrayVec ℕ) → Type 0 where
+-- items one after the other: the events that they are, the answers to each of these, what is written for each item, and the
+-- sense data that is then kept. An item is answered with what is kept, and is no event; or it is a request and a turn, to which
+-- exactly one reply is given (profile)
+pub data Exchange : List Item → List Frame → List (List Answer) → List (List ℕ) → Option (ArrayVec ℕ) → Type 0 where
   start : Exchange [] [] [] [] None
-  asked : {items : List Item} {events : List Frame} {groups : List (List Answer)} {wire : List ℕ} (i : Item)
+  asked : {items : List Item} {events : List Frame} {groups : List (List Answer)} {told : List (List ℕ)} (i : Item)
       (sense : ArrayVec ℕ)
-      → Exchange items events groups wire (Some sense) → is_told_kept (Some sense) i.command ≡ true
-      → Exchange (items ++ i ∷ []) events groups (wire ++ kept_on_wire i.command sense) None
-  sent : {items : List Item} {events : List Frame} {groups : List (List Answer)} {wire : List ℕ} {kept : Option (ArrayVec ℕ)}
-      (i : Item) (reply : Reply) (first second : List Answer)
-      → Exchange items events groups wire kept → is_told_kept kept i.command ≡ false → first ++ second ≡ replied reply ∷ []
+      → Exchange items events groups told (Some sense) → is_told_kept (Some sense) i.command ≡ true
+      → Exchange (items ++ i ∷ []) events groups (told ++ kept_on_wire i.command sense ∷ []) None
+  sent : {items : List Item} {events : List Frame} {groups : List (List Answer)} {told : List (List ℕ)}
+      {kept : Option (ArrayVec ℕ)} (i : Item) (reply : Reply) (first second : List Answer)
+      → Exchange items events groups told kept → is_told_kept kept i.command ≡ false → first ++ second ≡ replied reply ∷ []
       → Exchange (items ++ i ∷ []) (events ++ item_events i) (groups ++ first ∷ second ∷ [])
-      (wire ++ reply_on_wire i.command reply) (kept_of reply)
+      (told ++ reply_on_wire i.command reply ∷ []) (kept_of reply)
 
 -- ---- who tells the answers to one item
 

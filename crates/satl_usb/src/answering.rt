@@ -65,7 +65,7 @@ fn repeat_sense<K: Sink>(
 }
 
 /// Sends an item to the unit, and gives the sense data of its reply, where it failed.
-fn send_item<K: Sink, D: Bench, L: Ledger>(
+fn send_item<K: Sink, D: Bench<L>, L: Ledger>(
     satl: &mut Satl,
     item: Taken,
     sink: &mut K,
@@ -101,7 +101,7 @@ fn send_item<K: Sink, D: Bench, L: Ledger>(
 /// Answers one item: REQUEST SENSE with the sense data that is kept, where some is; else its request is sent to the unit and
 /// one turn is taken. Gives the sense data that is then kept. `WriteFault` comes only where the sink's count of faults rose;
 /// then a front of the one answer was written (profile).
-pub fn answer_item<K: Sink, D: Bench, L: Ledger>(
+pub fn answer_item<K: Sink, D: Bench<L>, L: Ledger>(
     satl: &mut Satl,
     item: Taken,
     kept: Option<SenseBytes>,

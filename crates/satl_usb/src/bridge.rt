@@ -32,11 +32,11 @@ use std::sync::ledger::Ledger;
 /// the offset, in bytes, is no item; the items before it were carried out, and nothing is written for it. Of what stands there
 /// exactly 31 bytes were taken, and behind a good wrapper whose item would end within 2^40 bytes the data that it tells, or all
 /// where there are fewer. `Read` and `Write` come only where the source's or the sink's count of faults rose; at `Read` fewer
-/// bytes were taken than these. At every answer the drive was not unplugged, and no order bytes were handed in to it. An input
-/// that is items to its end is carried out whole, where no count of faults rises and the drive is not refused, or there is no
-/// memory before anything is read. No memory is taken behind the opening (USB Mass Storage Class, Bulk-Only Transport 1.0, 5;
-/// profile).
-pub fn serve_usb<S: Source, K: Sink, D: Bench, L: Ledger>(
+/// bytes were taken than these; at `Write` all items taken were carried out, and of the last one's answer a front was written.
+/// At every answer the drive was not unplugged, and no order bytes were handed in to it. An input that is items to its end is
+/// carried out whole, where no count of faults rises and the drive is not refused, or there is no memory before anything is
+/// read. No memory is taken behind the opening (USB Mass Storage Class, Bulk-Only Transport 1.0, 5; profile).
+pub fn serve_usb<S: Source, K: Sink, D: Bench<L>, L: Ledger>(
     alloc: Global,
     source: &mut S,
     sink: &mut K,
@@ -78,7 +78,7 @@ pub fn serve_usb<S: Source, K: Sink, D: Bench, L: Ledger>(
 }
 
 /// The same, on a layer that was opened.
-fn serve_items<S: Source, K: Sink, D: Bench, L: Ledger>(
+fn serve_items<S: Source, K: Sink, D: Bench<L>, L: Ledger>(
     alloc: Global,
     satl: &mut Satl,
     source: &mut S,

@@ -17,7 +17,7 @@ use std::sync::ledger::Ledger;
 /// A request arrives at a unit without tasks, and one turn is taken. Exactly one reply is told, which has the nexus and tag of
 /// the request, and no task is left. `WriteFault` comes only where the sink's count of faults rose; then a front of that one
 /// reply was told (profile).
-pub fn serve_item<T: Teller, K: Sink, D: Bench, L: Ledger>(
+pub fn serve_item<T: Teller, K: Sink, D: Bench<L>, L: Ledger>(
     satl: &mut Satl,
     request: Request,
     teller: &mut T,

@@ -10,6 +10,7 @@ use satl_disk::ModelDrive;
 use satl_drive::Bench;
 use satl_top::Status;
 use std::alloc::Global;
+use std::marker::Brand;
 use std::process::Abort;
 use std::test::Fail;
 
@@ -51,7 +52,7 @@ fn flawed(alloc: Global) -> Result<ModelDrive, NoMemory>
     ensures free { IfOk result (λ d. IsFree (state_of d)) }
 {
     let mut drive = fresh(alloc)?;
-    drive.strike(Which::Read, 0);
+    Bench::<Brand>::strike(&mut drive, Which::Read, 0);
     Ok(drive)
 }
 

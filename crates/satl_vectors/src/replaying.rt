@@ -1,5 +1,5 @@
 // Replays over memory streams.
-ghost use Rattle.std.specs.Prelude.{◌≡◌, ◌≤◌, IfOk, false, map, vec_len};
+ghost use Rattle.std.specs.Prelude.{◌≡◌, ◌≤◌, ◌<◌, IfOk, false, map, vec_len};
 ghost use Rattle.std.specs.List.{AllByRecursion};
 ghost use Rattle.satl_base.specs.Lists.{is_in};
 ghost use Rattle.satl_disk.specs.Bench.{fitting_words, unqueued_words};
@@ -7,15 +7,15 @@ ghost use Rattle.satl_disk.specs.Disk.{state_of};
 ghost use Rattle.satl_barrier.specs.Leaving.{IsFree};
 
 use crate::frames::{END, ENDED};
-use satl_base::NoMemory;
+use satl_base::{NoMemory, Steps};
 use satl_disk::ModelDrive;
 use satl_io::{MemorySink, MemorySource};
-use satl_top::{Status, counted_program};
+use satl_top::{Status, program};
 use std::alloc::{AllocError, Global};
 use std::marker::Brand;
 use std::process::Abort;
 use std::rc::RcStr;
-use std::sync::ledger::Blank;
+use std::sync::ledger::{Blank, Ledger};
 use std::test::Fail;
 
 /// How many bytes a read gives and a write takes at most, and which call of the source and of the sink fails.
@@ -63,6 +63,26 @@ fn words(alloc: Global, given: &[&str]) -> Result<Vec<RcStr>, NoMemory> {
     Ok(words)
 }
 
+/// What the program does with these words; its calls of the drives are counted on a blank page of a ledger.
+fn counted<L: Ledger>(
+    alloc: Global,
+    words: &[RcStr],
+    source: &mut MemorySource,
+    sink: &mut MemorySink,
+    drives: &mut Vec<ModelDrive>,
+    blank: Blank,
+) -> Status
+    requires few { vec_len drives.old ≤ 4 }
+    requires one { 1 ≤ vec_len drives.old }
+    requires free { AllByRecursion IsFree (map state_of drives.old.items) }
+    requires name { blank.name ≡ L.name }
+    requires parts { blank.parts ≡ L.parts }
+    requires some { 0 < blank.parts }
+{
+    let mut steps = Steps::<L>::new(blank);
+    program(alloc, words, source, sink, drives, &mut steps)
+}
+
 /// How the program ends with these words behind its name, over this source and these drives, and what it writes to a sink of
 /// these streams.
 fn run_over(
@@ -79,14 +99,7 @@ fn run_over(
     let words = words(alloc, given)?;
     let failing = calls(alloc, streams.failing_write)?;
     let mut sink = MemorySink::new(alloc, 131072, streams.piece.max(1), failing)?;
-    let status = counted_program::<_, _, _, Brand>(
-        alloc,
-        &words,
-        source,
-        &mut sink,
-        drives,
-        Blank::new(1),
-    );
+    let status = counted::<Brand>(alloc, &words, source, &mut sink, drives, Blank::new(1));
     Ok((status, sink.written().to_vec(alloc)?))
 }
 

@@ -1,12 +1,12 @@
 // The totals of an input that is served.
 ghost use Rattle.std.specs.Prelude.{◌≡◌, ◌<◌, [], None};
+ghost use Rattle.satl_disk.specs.Disk.{state_of};
 ghost use Rattle.satl_barrier.specs.Leaving.{IsFree};
 
 use crate::frames::{END, TURN, input, read, request, write};
 use satl_base::Steps;
 use satl_disk::ModelDrive;
-use satl_drive::Bench;
-use satl_io::{MemorySink, MemorySource, Sink, Source};
+use satl_io::{MemorySink, MemorySource};
 use satl_serve::{Form, ServeFault, serve};
 use satl_text::Summary;
 use std::alloc::Global;
@@ -14,15 +14,15 @@ use std::marker::Brand;
 use std::sync::ledger::{Blank, Ledger};
 use std::test::Fail;
 
-fn served<S: Source, K: Sink, D: Bench, L: Ledger>(
+fn served<L: Ledger>(
     alloc: Global,
     form: Form,
-    source: &mut S,
-    sink: &mut K,
-    drive: &mut D,
+    source: &mut MemorySource,
+    sink: &mut MemorySink,
+    drive: &mut ModelDrive,
     blank: Blank,
 ) -> Result<Summary, ServeFault>
-    requires free { IsFree (D.state drive.old) }
+    requires free { IsFree (state_of drive.old) }
     requires name { blank.name ≡ L.name }
     requires parts { blank.parts ≡ L.parts }
     requires some { 0 < blank.parts }
@@ -54,7 +54,7 @@ fn totals(rt: HostRuntime) -> Result<(), Fail> {
         let mut source = MemorySource::new(frames, 4096, Vec::new(alloc));
         let mut sink = MemorySink::new(alloc, 65536, 4096, Vec::new(alloc))?;
         let mut drive = ModelDrive::new(alloc, 8192)?;
-        let totals = served::<_, _, _, Brand>(
+        let totals = served::<Brand>(
             alloc,
             form,
             &mut source,

@@ -7,7 +7,7 @@ use Rattle.std.specs.Prelude.{[], ◌∷◌}
 use Rattle.std.proofs.lemmas.Result.{on_ok_weaker, on_err_weaker}
 use Rattle.satl_base.proofs.OutcomeLemmas.{on_both}
 use Rattle.satl_step.proofs.TallyLemmas.{tied_lent}
-use Rattle.satl_fleet.proofs.EventLemmas.{calls_there, did_at, did_at_in_part, ready_here, serves_there, keeps_there, unit_did_in_part_lent, unit_did_lent}
+use Rattle.satl_fleet.proofs.EventLemmas.{calls_there, did_at, did_at_in_part, none_here, ready_here, serves_there, keeps_there, unit_did_in_part_lent, unit_did_lent}
 use Rattle.satl_fleet.specs.Units.{unit_state}
 use Rattle.satl_fleet.proofs.event.serve_request_at.Goals as goal
 
@@ -39,3 +39,6 @@ pub returns-clause-calls : goal.returns-clause-calls
 returns-clause-calls g c =
     let tasks = ap (λ (x : Layer). length x.tasks) c.lend-lent.ensures.rest in
     calls_there g.D.Drive.state c.args.units.now.items c.args.drives.now.items c.args.k c.index_mut-satl.result.now c.index_mut-drive.result.now (omega (arith, c.requires.within, c.args.units.now.ok.0)) (omega (arith, c.requires.within, c.requires.serve.has.same, c.args.drives.now.ok.0)) c.index_mut-satl.ensures.value c.index_mut-drive.ensures.value c.serve_unit.new.satl c.serve_unit.new.drive turn_calls c.args.steps.now c.serve_unit.new.steps (calls_allowed (frames.Request c.args.request ∷ [])) (omega (arith, c.serve_unit.ensures.calls, tasks))
+
+pub returns-clause-uncalled : goal.returns-clause-uncalled
+returns-clause-uncalled g c = λ none. c.serve_unit.ensures.uncalled (none_here g.D.Drive.state c.args.units.now.items c.args.drives.now.items c.args.k c.index_mut-satl.result.now c.index_mut-drive.result.now (omega (arith, c.requires.within, c.args.units.now.ok.0)) (omega (arith, c.requires.within, c.requires.serve.has.same, c.args.drives.now.ok.0)) c.index_mut-satl.ensures.value c.index_mut-drive.ensures.value (frames.Request c.args.request) none)

@@ -14,3 +14,9 @@ returns-clause-done g c = on_ok_weaker c.write_frame.result (λ wrote. end_round
 
 pub returns-clause-part : goal.returns-clause-part
 returns-clause-part g c = on_err_weaker c.write_frame.result (λ part. end_round_part (vec_len c.args.units.now) (stage (target g.D.Drive.state c.args.units.now c.args.drives.now) (g.K.Sink.written c.args.sink.now)) (stage (target g.D.Drive.state c.serve_all.new.units c.serve_all.new.drives) (g.K.Sink.written c.serve_all.new.sink)) (g.K.Sink.written c.write_frame.new.sink) c.in_ok-serve_all.ensures.done part) c.write_frame.ensures.part
+
+pub returns-clause-uncalled : goal.returns-clause-uncalled
+returns-clause-uncalled g c = λ none. c.serve_all.ensures.uncalled (λ k. (none k).0)
+
+pub returns-in_err-serve_all-clause-uncalled : goal.returns-in_err-serve_all-clause-uncalled
+returns-in_err-serve_all-clause-uncalled g c = λ none. c.serve_all.ensures.uncalled (λ k. (none k).0)

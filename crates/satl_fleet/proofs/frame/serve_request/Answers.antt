@@ -8,7 +8,7 @@ use Rattle.satl_fleet.specs.Routing.{route_to}
 use Rattle.satl_fleet.specs.Rounds.{stage}
 use Rattle.satl_fleet.specs.Serving.{target}
 use Rattle.satl_fleet.proofs.TargetLemmas.{keeps_same}
-use Rattle.satl_fleet.proofs.FrameLemmas.{report_round, report_round_part, request_one, request_one_part}
+use Rattle.satl_fleet.proofs.FrameLemmas.{report_round, report_round_part, request_one, request_one_part, request_uncalled}
 use Rattle.satl_fleet.proofs.frame.serve_request.Goals as goal
 
 pub returns-then-is_report-clause-done : goal.returns-then-is_report-clause-done
@@ -33,3 +33,8 @@ returns-clause-part g c =
 
 pub returns-then-is_report-clause-keeps : goal.returns-then-is_report-clause-keeps
 returns-then-is_report-clause-keeps g c = keeps_same (target g.D.Drive.state c.args.units.now c.args.drives.now) c.requires.serve.has
+
+pub returns-clause-uncalled : goal.returns-clause-uncalled
+returns-clause-uncalled g c =
+    let other = sym c.is_report.ensures ∙ c.if-is_report.false in
+    λ none. c.serve_request_at.ensures.uncalled (request_uncalled (vec_len c.args.units.now) c.args.request c.route_to-unit.result (c.route_to-unit.ensures ∙ ap (λ n. route_to n c.args.request.lun) c.len-count.ensures) other (stage (target g.D.Drive.state c.args.units.now c.args.drives.now) (g.K.Sink.written c.args.sink.now)) (stage (target g.D.Drive.state c.args.units.now c.args.drives.now) (g.K.Sink.written c.args.sink.now)) none)

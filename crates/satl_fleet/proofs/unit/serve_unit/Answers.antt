@@ -16,3 +16,6 @@ returns-clause-calls g c = omega (arith, (counted_so c.args.event (scene_of c.ar
 
 pub returns-clause-tied : goal.returns-clause-tied
 returns-clause-tied g c = record { tied = c.serve_event-served.ensures.leaves.tied; queue = c.see_queue.ensures.ties (g.D.Drive.state c.serve_event-served.new.drive) c.serve_event-served.ensures.leaves.tied }
+
+pub returns-clause-uncalled : goal.returns-clause-uncalled
+returns-clause-uncalled g c = (counted_so c.args.event (scene_of c.args.satl.now (g.D.Drive.state c.args.drive.now) c.args.steps.now (record { unit = c.args.unit; named = false }) (g.K.Sink.written c.args.sink.now)) (scene_of c.serve_event-served.new.satl (g.D.Drive.state c.serve_event-served.new.drive) c.serve_event-served.new.steps c.serve_event-served.new.teller (g.K.Sink.written c.serve_event-served.new.sink)) c.serve_event-served.result c.serve_event-served.ensures.done).uncalled

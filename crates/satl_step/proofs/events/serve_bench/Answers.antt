@@ -14,7 +14,7 @@ returns-clause-done g c =
     replies_end g.T.Teller.told g.T.Teller.behind (frames.Bench c.args.event.now) _ _ c.bench.new.replies c.tell_replies.result
     (carried_bench c.args.event.now _ _ c.bench.new.replies (subst (λ x. Around (Happens c.args.event.now) s c.bench.new.replies x) (sym same) c.bench.ensures.happens)
     (depth_covered c.args.satl.now c.bench.new.self c.tell_replies.new.satl (g.D.Drive.state c.args.drive.now) (g.D.Drive.state c.bench.new.drive) c.tell_replies.ensures.stays c.bench.ensures.deep (c.see_queue.ensures.deep (g.D.Drive.state c.bench.new.drive) c.bench.ensures.tied)))
-    (tallied (frames.Bench c.args.event.now) c.args.satl.now c.bench.new.self c.tell_replies.new.satl (g.D.Drive.state c.args.drive.now) (g.D.Drive.state c.bench.new.drive) c.args.steps.now c.bench.new.steps c.tell_replies.ensures.stays c.bench.ensures.counted c.bench.ensures.unplugs c.bench.ensures.orders (omega (arith, c.bench.ensures.steps, c.bench.ensures.fewer)) c.bench.ensures.deep)
+    (tallied (frames.Bench c.args.event.now) c.args.satl.now c.bench.new.self c.tell_replies.new.satl (g.D.Drive.state c.args.drive.now) (g.D.Drive.state c.bench.new.drive) c.args.steps.now c.bench.new.steps c.tell_replies.ensures.stays c.bench.ensures.counted c.bench.ensures.unplugs c.bench.ensures.orders (omega (arith, c.bench.ensures.steps, c.bench.ensures.fewer)) (λ none. c.bench.ensures.steps) c.bench.ensures.deep)
     c.tell_replies.ensures.told c.tell_replies.ensures.some c.tell_replies.ensures.part
 
 pub returns-clause-leaves : goal.returns-clause-leaves

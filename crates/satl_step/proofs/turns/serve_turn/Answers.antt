@@ -1,4 +1,4 @@
-use Rattle.std.proofs.Common.{arith, subst, sym}
+use Rattle.std.proofs.Common.{arith, subst, sym, ◌∙◌}
 use Rattle.satl_frame.specs.declared.frames.Frame.TheVariants as frames
 use Rattle.satl_direct.specs.Quiet.{Around}
 use Rattle.satl_direct.specs.Turn.{Turn}
@@ -13,7 +13,7 @@ returns-clause-turns g c =
     turn_end g.T.Teller.told g.T.Teller.behind _ _ c.turn.new.replies c.tell_replies.result
     (subst (λ s. Around Turn (view c.args.satl.now (g.D.Drive.state c.args.drive.now)) c.turn.new.replies s) (sym same) c.turn.ensures.turns)
     (depth_covered c.args.satl.now c.turn.new.self c.tell_replies.new.satl (g.D.Drive.state c.args.drive.now) (g.D.Drive.state c.turn.new.drive) c.tell_replies.ensures.stays c.turn.ensures.kept.deep (c.see_queue.ensures.deep (g.D.Drive.state c.turn.new.drive) c.turn.ensures.tied))
-    (tallied (frames.Turn 1) c.args.satl.now c.turn.new.self c.tell_replies.new.satl (g.D.Drive.state c.args.drive.now) (g.D.Drive.state c.turn.new.drive) c.args.steps.now c.turn.new.steps c.tell_replies.ensures.stays c.turn.ensures.kept.losses c.turn.ensures.kept.unplugs c.turn.ensures.kept.orders (omega (arith, c.turn.ensures.calls)) c.turn.ensures.kept.deep)
+    (tallied (frames.Turn 1) c.args.satl.now c.turn.new.self c.tell_replies.new.satl (g.D.Drive.state c.args.drive.now) (g.D.Drive.state c.turn.new.drive) c.args.steps.now c.turn.new.steps c.tell_replies.ensures.stays c.turn.ensures.kept.losses c.turn.ensures.kept.unplugs c.turn.ensures.kept.orders (omega (arith, c.turn.ensures.calls)) (λ lost. c.turn.ensures.uncalled (c.requires.can.tied.agrees.mark ∙ lost)) c.turn.ensures.kept.deep)
     c.tell_replies.ensures.told c.tell_replies.ensures.some c.tell_replies.ensures.part
 
 pub returns-clause-leaves : goal.returns-clause-leaves

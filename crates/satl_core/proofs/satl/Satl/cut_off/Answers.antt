@@ -1,9 +1,10 @@
-use Rattle.std.proofs.Common.{◌≢◌, ◌≤◌, arith, refl, sym, ap, subst, ◌∙◌, [], length}
+use Rattle.std.proofs.Common.{◌≡◌, ◌≢◌, ◌≤◌, arith, refl, sym, ap, subst, ◌∙◌, [], length, true, false}
 use Rattle.std.specs.Prelude.{not}
 use Rattle.std.specs.List.{AllByRecursion}
 use Rattle.satl_line.specs.Tasks.{Held}
 use Rattle.satl_base.proofs.ListsLemmas.{All-filter}
 use Rattle.satl_core.specs.Layer.{IsKept, IsSoundLayer, Layer, Tied, held_pages}
+use Rattle.satl_core.specs.Calling.{OnlyIssues}
 use Rattle.satl_core.specs.Leaving.{is_within}
 use Rattle.satl_core.proofs.AgreeingLemmas.{quietly_down, tied_lost, works_flying}
 use Rattle.satl_core.proofs.HeldLemmas.{filter_fewer}
@@ -98,3 +99,11 @@ returns-in-Err-clause-rest g c =
     lost_rest (layer_of i.identity i.modes i.started i.down i.attentions i.queue i.pool) _ _ _ _ c.drop_tasks.new.queue.tasks c.self.view_is
     (lost_layer (layer_of i.identity i.modes i.started i.down i.attentions i.queue i.pool) (layer_of i.identity i.modes i.started i.down i.attentions c.drop_tasks.new.queue c.drop_tasks.new.pool) _ refl (c.drop_tasks.ensures.flying ∙ c.in-Err.ensures.emptied) c.lose.ensures.stays)
     (omega (arith, ap (λ (x : Layer). x.out) c.lose.ensures.stays, c.drop_tasks.ensures.out, ap held_pages c.cut-cut.ensures.same, c.self.invariant.held)) c.lose.ensures.answers c.lose.ensures.writable
+
+pub returns-in-Ok-clause-issues : goal.returns-in-Ok-clause-issues
+returns-in-Ok-clause-issues g c = λ up.
+    subst (λ n. OnlyIssues [] n c.refill.new.self c.refill.new.steps) c.cut-cut.ensures.step
+    (subst (λ fs. OnlyIssues fs c.cut-cut.new.steps c.refill.new.self c.refill.new.steps) (c.drop_tasks.ensures.flying ∙ c.cut-cut.ensures.emptied) (c.refill.ensures.issues up))
+
+pub returns-in-Err-clause-issues : goal.returns-in-Err-clause-issues
+returns-in-Err-clause-issues g c = λ up. let no : true ≡ false = sym (ap (λ (l : Layer). l.down) c.lose.ensures.stays) ∙ up in absurd cc

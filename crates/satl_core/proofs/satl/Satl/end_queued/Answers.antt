@@ -1,4 +1,4 @@
-use Rattle.std.proofs.Common.{◌≢◌, arith, refl, sym, ap, subst, ◌∙◌, [], ◌++◌, length}
+use Rattle.std.proofs.Common.{◌≡◌, ◌≢◌, arith, refl, sym, ap, subst, ◌∙◌, [], ◌++◌, length, true, false}
 use Rattle.satl_line.specs.Tasks.{Held}
 use Rattle.satl_core.specs.Layer.{Layer, Tied, reply_pages}
 use Rattle.std.proofs.lemmas.List.{length-map}
@@ -6,7 +6,9 @@ use Rattle.satl_direct.specs.Senses.{link_lost}
 use Rattle.satl_core.specs.declared.turning.Ending.TheVariants as endings
 use Rattle.std.specs.Prelude.{not}
 use Rattle.satl_core.specs.Turning.{ended_reply, ending_by, lost_replies}
+use Rattle.satl_flight.specs.Leaving.{AreLeft}
 use Rattle.satl_core.proofs.AgreeingLemmas.{works_flying}
+use Rattle.satl_core.proofs.CallingLemmas.{told_end}
 use Rattle.satl_core.proofs.CountedLemmas.{kept_rose}
 use Rattle.satl_core.proofs.EndingLemmas.{some_count, some_tasks, ended_as, ended_count, ended_kept, ended_pages, ended_unflushed, flight_loses, flight_tied, others_kept, queued_agrees, queued_ends}
 use Rattle.satl_core.proofs.HeldLemmas.{alike_count, alike_held, alike_kept, pushed}
@@ -131,3 +133,14 @@ returns-in-Err-clause-room g c =
     let i = c.self.inside in
     let all = ap length (c.lose.ensures.answers ∙ ap (λ r. r ++ lost_replies i.modes.d_sense c.settle_one.new.self.tasks) c.requires.empty) in
     omega (arith, all, length-map c.settle_one.new.self.tasks (λ (h : Held). ended_reply h.entry (endings.Check link_lost) i.modes.d_sense), ap (λ (l : Layer). length l.tasks) c.lose.ensures.stays, alike_count i.queue.tasks c.settle_one.new.self.tasks c.in-Err.ensures.alike, ap (λ (l : Layer). length l.tasks) c.self.view_is, c.requires.few)
+
+pub returns-in-Ok-clause-polls : goal.returns-in-Ok-clause-polls
+returns-in-Ok-clause-polls g c = λ up. record {
+  error = c.in-Ok.error;
+  told = told_end c.in-Ok.error c.args.replies.now c.push.new.self c.end_task.result c.entry_mut-task.result.now c.ending_by-ending.result (not c.is_read.result) c.self.inside.modes.d_sense c.requires.empty c.push.ensures c.end_task.ensures.reply c.ending_by-ending.ensures;
+  left = subst (λ (l : Layer). AreLeft c.in-Ok.error l.flying c.settle_one.new.self.flying) c.self.view_is c.in-Ok.ensures.left;
+  cost = c.in-Ok.ensures.cost;
+}
+
+pub returns-in-Err-clause-polls : goal.returns-in-Err-clause-polls
+returns-in-Err-clause-polls g c = λ up. let no : true ≡ false = sym (ap (λ (l : Layer). l.down) c.lose.ensures.stays) ∙ up in absurd cc

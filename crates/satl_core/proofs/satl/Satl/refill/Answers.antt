@@ -1,4 +1,6 @@
-use Rattle.std.proofs.Common.{refl, ap, ◌∙◌, ◌-◌, ◌++◌}
+use Rattle.std.proofs.Common.{◌≡◌, refl, sym, ap, subst, ◌∙◌, ◌-◌, ◌++◌, true, false}
+use Rattle.satl_flight.proofs.OrderLemmas.{in_order_none}
+use Rattle.satl_core.specs.Calling.{OnlyIssues}
 use Rattle.satl_core.specs.Layer.{Layer, held_pages}
 use Rattle.satl_core.specs.Turning.{lost_replies}
 use Rattle.satl_core.proofs.RefillLemmas.{launched_answers, launched_settled, launched_tied, lost_answers, lost_layer, lost_rest, lost_tied, no_answers, works_by}
@@ -47,3 +49,18 @@ returns-in-Err-clause-rest g c =
     (lost_layer (layer_of i.identity i.modes i.started i.down i.attentions i.queue i.pool) (layer_of i.identity i.modes i.started i.down i.attentions c.launch.new.self i.pool) _ refl c.in-Err.ensures.emptied c.lose.ensures.stays)
     (ap (λ (x : Layer). x.out) c.lose.ensures.stays ∙ ap (λ ts. i.pool.out - held_pages ts) c.in-Err.ensures.same)
     (c.lose.ensures.answers ∙ ap (λ ts. c.args.replies.now ++ lost_replies i.modes.d_sense ts) c.in-Err.ensures.same) c.lose.ensures.writable
+
+pub returns-then-self-clause-issues : goal.returns-then-self-clause-issues
+returns-then-self-clause-issues g c = λ up. record { cost = refl; in_order = in_order_none _ _ }
+
+pub returns-in-Ok-clause-issues : goal.returns-in-Ok-clause-issues
+returns-in-Ok-clause-issues g c = λ up.
+    let i = c.self.inside in
+    subst (λ (l : Layer). OnlyIssues l.flying c.args.steps.now (layer_of i.identity i.modes i.started i.down i.attentions c.launch.new.self i.pool) c.launch.new.steps) c.self.view_is
+    (record { cost = c.in-Ok.ensures.cost; in_order = c.in-Ok.ensures.in_order })
+
+pub returns-in-Err-clause-issues : goal.returns-in-Err-clause-issues
+returns-in-Err-clause-issues g c = λ up. let no : true ≡ false = sym (ap (λ (l : Layer). l.down) c.lose.ensures.stays) ∙ up in absurd cc
+
+pub returns-in-Err-clause-unlost : goal.returns-in-Err-clause-unlost
+returns-in-Err-clause-unlost g c = λ up. let no : true ≡ false = sym (ap (λ (l : Layer). l.down) c.lose.ensures.stays) ∙ up in absurd cc

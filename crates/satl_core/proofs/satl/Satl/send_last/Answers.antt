@@ -1,4 +1,4 @@
-use Rattle.std.proofs.Common.{◌≡◌, refl, sym, ap, subst, ◌∙◌, ◌-◌, ◌++◌, List, []}
+use Rattle.std.proofs.Common.{◌≡◌, refl, sym, ap, subst, ◌∙◌, ◌-◌, ◌++◌, List, [], true, false, arith, length}
 use Rattle.std.specs.Prelude.{MatchBool}
 use Rattle.satl_base.specs.Identify.{has_queued_trim}
 use Rattle.satl_core.specs.Layer.{Layer, held_pages, works}
@@ -48,3 +48,9 @@ returns-in-Err-clause-rest g c =
     (lost_layer (layer_of i.identity i.modes i.started i.down i.attentions i.queue i.pool) (layer_of i.identity i.modes i.started i.down i.attentions c.launch_last.new.self i.pool) _ refl c.in-Err.ensures.emptied c.lose.ensures.stays)
     (ap (λ (x : Layer). x.out) c.lose.ensures.stays ∙ ap (λ ts. i.pool.out - held_pages ts) c.in-Err.ensures.same)
     (c.lose.ensures.answers ∙ ap (λ ts. c.args.replies.now ++ lost_replies i.modes.d_sense ts) c.in-Err.ensures.same) c.lose.ensures.writable
+
+pub returns-in-Ok-clause-issues : goal.returns-in-Ok-clause-issues
+returns-in-Ok-clause-issues g c = λ up. omega (arith, c.in-Ok.ensures.cost, ap (λ (l : Layer). length l.flying) c.self.view_is)
+
+pub returns-in-Err-clause-issues : goal.returns-in-Err-clause-issues
+returns-in-Err-clause-issues g c = λ up. let no : true ≡ false = sym (ap (λ (l : Layer). l.down) c.lose.ensures.stays) ∙ up in absurd cc

@@ -1,4 +1,4 @@
-use Rattle.std.proofs.Common.{◌≡◌, ◌≤◌, arith, sym, ap, subst, ◌∙◌, ◌∷◌, [], true, length, Err, Ok}
+use Rattle.std.proofs.Common.{◌≡◌, ◌≤◌, arith, sym, ap, subst, ◌∙◌, ◌∷◌, [], true, false, length, Err, Ok}
 use Rattle.std.specs.Prelude.{IfSome}
 use Rattle.std.proofs.lemmas.List.{nil_from_length}
 use Rattle.satl_base.specs.declared.request.Request.{Request}
@@ -19,7 +19,7 @@ use Rattle.satl_core.proofs.DeviceLemmas.{arrives_around}
 use Rattle.satl_core.proofs.HeldLemmas.{held_is}
 use Rattle.satl_core.proofs.OverlapLemmas.{sent_around}
 use Rattle.satl_core.proofs.TieLemmas.{layer_of}
-use Rattle.satl_core.proofs.ValidLemmas.{becomes_down, came_agrees, came_last, filled_up, filled_up_cut, filled_up_holds, full_tied, once_judged_valid, tied_told}
+use Rattle.satl_core.proofs.ValidLemmas.{becomes_down, becomes_flying, came_agrees, came_last, filled_up, filled_up_cut, filled_up_holds, full_tied, once_judged_valid, tied_told}
 use Rattle.satl_core.proofs.satl.Satl.submit.Goals as goal
 
 pub judge-requires-clause-holds : goal.judge-requires-clause-holds
@@ -142,3 +142,30 @@ returns-in-Err-clause-tied g c =
     let new = layer_of i.identity i.modes i.started i.down i.attentions i.queue c.answer_at_once.new.pool in
     tied_told c.args.self.now new d (ap (λ (l : Layer). record l { free = new.free; out = new.out }) (c.self.view_is ∙ c.in-Err.ensures.kept) ∙ ap (λ lists. record c.args.self.now { attentions = lists; free = new.free; out = new.out }) (sym (ap (λ (l : Layer). l.attentions) c.self.view_is)))
     (subst IsValid (sym (ap (λ l. view l d) (c.self.view_is ∙ c.in-Err.ensures.left))) (once_judged_valid c.args.self.now d c.args.request c.requires.tied.agrees.valid)) c.requires.tied
+
+pub returns-then-overlaps-clause-issues : goal.returns-then-overlaps-clause-issues
+returns-then-overlaps-clause-issues g c = λ apart up. let no : true ≡ false = sym c.if-overlaps.true ∙ (c.overlaps.ensures.value ∙ apart) in absurd cc
+
+pub returns-then-len-eq0-clause-issues : goal.returns-then-len-eq0-clause-issues
+returns-then-len-eq0-clause-issues g c = λ apart up.
+    let becomes = subst (λ (l : Layer). Becomes c.args.request c.in-Ok.command l c.add_task.new.replies c.add_task.new.self) c.in-Ok.ensures.same c.add_task.ensures.becomes in
+    let flying = ap length (becomes_flying c.args.self.now c.add_task.new.self (g.D.Drive.state c.args.drive.now) c.args.request c.in-Ok.command c.add_task.new.replies becomes) in
+    omega (arith, flying, c.send_last.ensures.issues up)
+
+pub returns-then-len-eq0-clause-resets : goal.returns-then-len-eq0-clause-resets
+returns-then-len-eq0-clause-resets g c = λ meets up. let no : true ≡ false = sym meets ∙ (sym c.overlaps.ensures.value ∙ c.if-overlaps.false) in absurd cc
+
+pub returns-else-len-eq0-clause-issues : goal.returns-else-len-eq0-clause-issues
+returns-else-len-eq0-clause-issues g c = λ apart up.
+    let becomes = subst (λ (l : Layer). Becomes c.args.request c.in-Ok.command l c.add_task.new.replies c.add_task.new.self) c.in-Ok.ensures.same c.add_task.ensures.becomes in
+    let flying = ap length (becomes_flying c.args.self.now c.add_task.new.self (g.D.Drive.state c.args.drive.now) c.args.request c.in-Ok.command c.add_task.new.replies becomes) in
+    omega (arith, flying)
+
+pub returns-else-len-eq0-clause-resets : goal.returns-else-len-eq0-clause-resets
+returns-else-len-eq0-clause-resets g c = λ meets up. let no : true ≡ false = sym meets ∙ (sym c.overlaps.ensures.value ∙ c.if-overlaps.false) in absurd cc
+
+pub returns-in-Err-clause-issues : goal.returns-in-Err-clause-issues
+returns-in-Err-clause-issues g c = λ apart up. omega (arith, ap (λ (l : Layer). length l.flying) (c.self.view_is ∙ c.in-Err.ensures.kept))
+
+pub returns-in-Err-clause-resets : goal.returns-in-Err-clause-resets
+returns-in-Err-clause-resets g c = λ meets up. let no : true ≡ false = sym meets ∙ (sym c.overlaps.ensures.value ∙ c.if-overlaps.false) in absurd cc

@@ -4,7 +4,8 @@ use Rattle.std.specs.List.{AllByRecursion}
 use Rattle.satl_line.specs.Tasks.{Held}
 use Rattle.satl_base.proofs.ListsLemmas.{All-filter}
 use Rattle.satl_core.specs.Layer.{IsKept, Layer, Tied}
-use Rattle.satl_core.specs.Leaving.{is_within}
+use Rattle.satl_core.specs.Calling.{OnlyIssues}
+use Rattle.satl_core.specs.Leaving.{AreWaiting, is_within}
 use Rattle.satl_core.proofs.AgreeingLemmas.{works_flying}
 use Rattle.satl_core.proofs.HeldLemmas.{filter_fewer}
 use Rattle.satl_core.proofs.QueuedLemmas.{works_so}
@@ -13,7 +14,7 @@ use Rattle.satl_core.proofs.TieLemmas.{layer_of}
 use Rattle.satl_core.proofs.satl.Satl.take_off.Goals as goal
 
 pub cut_off-requires-clause-some : goal.cut_off-requires-clause-some
-cut_off-requires-clause-some g c = subst (λ (l : Layer). l.flying ≢ []) c.self.view_is (c.has_outstanding.ensures.some c.if-has_outstanding.true)
+cut_off-requires-clause-some g c = subst (λ (l : Layer). l.flying ≢ []) c.self.view_is (c.has_outstanding.ensures.flying c.if-has_outstanding.true)
 
 pub returns-then-has_outstanding-clause-unasked : goal.returns-then-has_outstanding-clause-unasked
 returns-then-has_outstanding-clause-unasked g c = λ down.
@@ -66,3 +67,15 @@ returns-clause-rest g c =
     let few = filter_fewer (λ (h : Held). not (is_within c.args.scope.now h.entry)) i.queue.tasks in
     rest_left c.args.scope.now (layer_of i.identity i.modes i.started i.down i.attentions i.queue i.pool) _ (layer_of i.identity i.modes i.started i.down i.attentions c.drop_tasks.new.queue c.drop_tasks.new.pool) _ _ _ c.self.view_is refl
     (omega (arith, c.drop_tasks.ensures.out, c.self.invariant.held)) (omega (arith, few, ap length c.drop_tasks.ensures.others)) c.refill.ensures.rest
+
+pub returns-then-has_outstanding-clause-resets : goal.returns-then-has_outstanding-clause-resets
+returns-then-has_outstanding-clause-resets g c = λ up. record {
+  none = λ waiting. absurd (c.has_outstanding.ensures.some c.if-has_outstanding.true (subst (λ (l : Layer). AreWaiting (is_within c.args.scope.now) l.flying l.tasks) (sym c.self.view_is) waiting));
+  some = λ no. c.cut_off.ensures.issues up;
+}
+
+pub returns-clause-resets : goal.returns-clause-resets
+returns-clause-resets g c = λ up. record {
+  none = λ waiting. subst (λ fs. OnlyIssues fs c.args.steps.now c.refill.new.self c.refill.new.steps) (c.drop_tasks.ensures.flying ∙ ap (λ (l : Layer). l.flying) c.self.view_is) (c.refill.ensures.issues up);
+  some = λ no. absurd (no (subst (λ (l : Layer). AreWaiting (is_within c.args.scope.now) l.flying l.tasks) c.self.view_is (c.has_outstanding.ensures.none c.if-has_outstanding.false)));
+}

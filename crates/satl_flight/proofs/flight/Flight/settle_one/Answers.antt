@@ -31,6 +31,14 @@ returns-in-Ok-Done-clause-ok g c =
     let polled = subst (λ r. IsPolled (g.D.Drive.state c.args.drive.now) c.args.dma.now r c.poll.new.dma (g.D.Drive.state c.poll.new.self)) c.in-Ok-Done.field-0-is c.in-Ok-Done.ensures.ok in
     settles_done _ _ _ c.requires.lending _ c.requires.tie c.requires.fit c.in-Ok-Done.tag c.land-place.result _ _ _ polled.reports c.land-place.ensures
 
+pub returns-in-Ok-Done-clause-left : goal.returns-in-Ok-Done-clause-left
+returns-in-Ok-Done-clause-left g c = record {
+  done = c.land-place.ensures.landed;
+  tag = c.in-Ok-Done.tag;
+  found = c.land-place.ensures.found;
+  left = c.land-place.ensures.left_is;
+}
+
 pub read_error-requires-clause-error : goal.read_error-requires-clause-error
 read_error-requires-clause-error g c =
     let polled = subst (λ r. IsPolled (g.D.Drive.state c.args.drive.now) c.args.dma.now r c.poll.new.dma (g.D.Drive.state c.poll.new.self)) c.in-Ok-Error.field-0-is c.in-Ok-Error.ensures.ok in
