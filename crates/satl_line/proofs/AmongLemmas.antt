@@ -1,10 +1,10 @@
 -- The slots whose tasks are held against one that comes: those that are taken, and what is found in them.
-use Rattle.std.proofs.Common.{◌≡◌, refl, sym, ◌∙◌, ap, subst, ℕ, ◌+◌, ◌*◌, ◌%◌, ◌^◌, ◌<◌, ◌≤◌, Bool, true, false, List, [], ◌∷◌, ◌++◌, map, get_or, arith, bit_and}
+use Rattle.std.proofs.Common.{◌≡◌, refl, sym, ◌∙◌, ap, subst, ℕ, ◌+◌, ◌*◌, ◌%◌, ◌^◌, ◌<◌, ◌≤◌, Bool, true, false, List, [], ◌∷◌, ◌++◌, map, get_or, arith}
 use Rattle.std.specs.Prelude.{nat_lt, ◌==◌, ◌||◌, ◌&&◌, if◌then◌else◌}
 use Rattle.std.specs.List.{AllByRecursion}
 use Rattle.std.specs.Int.{bit_at, bit_not, w64}
 use Rattle.std.proofs.lemmas.Nat.{and_le_l}
-use Rattle.std.proofs.lemmas.Nat.Bits.{bit_at-lt, bit_at-zero, bit_at_and, bit_at_clear_same, bit_at_clear_other, bit_at_set_same}
+use Rattle.std.proofs.lemmas.Nat.Bits.{bit_at-lt, bit_at-zero, bit_at_clear_same, bit_at_clear_other, bit_at_set_same}
 use Rattle.std.proofs.lemmas.Bool.{eqb-true, eqb-false, ltb-true, ltb-false, lt-ltb}
 use Rattle.satl_base.proofs.ListsLemmas.{All-weaken}
 use Rattle.satl_line.specs.declared.entry.Entry.{Entry}
@@ -22,7 +22,7 @@ use Rattle.satl_line.proofs.SlotsLemmas.{All-right, count-append, count_of-first
 -- ---- the slots that are taken
 
 -- what holds of each of these numbers holds of one that is among them
-All-counted : (P : ℕ → Type 0) (q : ℕ) (xs : List ℕ) → 0 < count_of q xs → AllByRecursion P xs → P q
+pub All-counted : (P : ℕ → Type 0) (q : ℕ) (xs : List ℕ) → 0 < count_of q xs → AllByRecursion P xs → P q
 All-counted P q [] some all = absurd (omega (arith, some))
 All-counted P q (x ∷ xs) some all =
     (elim (x == q) as (λ b. (x == q) ≡ b → 0 < (if b then 1 else 0) + count_of q xs → P q) [
@@ -77,10 +77,10 @@ active_taken outlines order free active q once noted =
 counts_are : (slots : List Entry) (order : List ℕ) (tasks : List Held) (q : ℕ) → tasks_in slots order ≡ tasks → count_of q order ≡ count_of q (slots_of tasks)
 counts_are slots order tasks q is = ap (count_of q) (sym (slots_of_tasks slots order) ∙ ap slots_of is)
 
--- those of some slots that are also in a number with no slot but those that are taken
-pub all_have_tasks : (slots : List Entry) (order : List ℕ) (tasks : List Held) (beside number : ℕ) → tasks_in slots order ≡ tasks → ((q : ℕ) → q < 64 → bit_at number q ≤ count_of q order) → AllHaveTasks tasks (bit_and beside number)
-all_have_tasks slots order tasks beside number is within = λ q lt.
-    omega (arith, bit_at_and beside number q, within q lt, counts_are slots order tasks q is)
+-- those of some slots of which each is taken
+pub all_have_tasks : (slots : List Entry) (order : List ℕ) (tasks : List Held) (these some : ℕ) → tasks_in slots order ≡ tasks → ((q : ℕ) → bit_at these q ≤ bit_at some q) → ((q : ℕ) → q < 64 → bit_at some q ≤ count_of q order) → AllHaveTasks tasks these
+all_have_tasks slots order tasks these some is among within = λ q lt.
+    omega (arith, among q, within q lt, counts_are slots order tasks q is)
 
 -- the outline in a slot that is looked at is that of the task there
 pub outline_among : (slots : List Entry) (outlines : List Outline) (order : List ℕ) (tasks : List Held) (among q : ℕ) → tasks_in slots order ≡ tasks → AllHaveTasks tasks among → EachIs slots outlines order → q < 64 → bit_at among q ≡ 1 → IsOutline (get_or slots q no_entry) (outline_in outlines q)

@@ -1,18 +1,16 @@
 -- What a task that comes or goes does to masks.
 use Rattle.std.proofs.Common.{◌≡◌, refl, sym, ◌∙◌, ap, subst, ℕ, ◌*◌, ◌%◌, ◌^◌, ◌<◌, Bool, true, false, List, [], ◌∷◌, ◌++◌, map, length, get_or, set, arith, bit_or, append_assoc}
-use Rattle.std.specs.Prelude.{replicate, not, ◌||◌, ◌&&◌, ◌==◌, if◌then◌else◌}
+use Rattle.std.specs.Prelude.{not, ◌||◌, ◌&&◌, ◌==◌, if◌then◌else◌}
 use Rattle.std.specs.Int.{bit_at, bit_not, w64}
-use Rattle.std.specs.List.{list_any, All, AllByRecursion}
+use Rattle.std.specs.List.{list_any, AllByRecursion}
 use Rattle.std.specs.Int.Bits.{and_zero_l}
 use Rattle.std.proofs.Math.ListN.{get_or-map}
 use Rattle.std.proofs.lemmas.Bool.{eq-eqb, eqb-true, eqb-false, false_from_ne_true, or_from, and_right, or_parts}
 use Rattle.std.proofs.lemmas.List.{get_or-set_same, get_or-set_other, append-nil}
-use Rattle.std.proofs.lemmas.List.Elements.{All-map, All-replicate, All-set, All-weaker}
-use Rattle.std.proofs.lemmas.List.Folds.{map_fixed}
 use Rattle.std.proofs.lemmas.Nat.{and_le_l}
-use Rattle.std.proofs.lemmas.Nat.Bits.{bit_at_set_same, bit_at_set_other, bit_at_clear_same, bit_at_clear_other, bit_at_or, same_from_bits_below, bit_at-zero}
+use Rattle.std.proofs.lemmas.Nat.Bits.{bit_at_set_same, bit_at_set_other, bit_at_clear_same, bit_at_clear_other, same_from_bits_below, bit_at-zero}
 use Rattle.satl_line.specs.Conflict.{Access, accesses_conflict}
-use Rattle.satl_line.specs.Layout.{SlotAccess, is_marked, IsMask, HaveMasks, HasNoOther, clear_bit, cleared, with_slot}
+use Rattle.satl_line.specs.Layout.{SlotAccess, is_marked, IsMask, HaveMasks, clear_bit, cleared, with_slot}
 
 abbrev pub bit : Bool → ℕ
 bit b = if b then 1 else 0
@@ -161,41 +159,11 @@ pub with_slot_other : (noted : Bool) (s number q : ℕ) → s < 64 → (q == s) 
 with_slot_other true s number q small other = bit_at_set_other w64 number s small q (eqb-false q s other)
 with_slot_other false s number q small other = refl
 
--- ---- the slots that masks may have
-
--- no slot, where all masks are 0
-pub within_none : All (HasNoOther 0) (replicate {A = ℕ} 64 0)
-within_none = All-replicate (HasNoOther 0) 64 0 (λ q small none. none)
-
--- those of one more mask
-pub within_more : (marked mask slot : ℕ) (masks : List ℕ) → All (HasNoOther marked) masks → All (HasNoOther (bit_or marked mask)) (set masks slot mask)
-within_more marked mask slot masks within =
-    All-set (HasNoOther (bit_or marked mask)) masks slot mask (λ q small none. omega (arith, bit_at_or marked mask q, none))
-    (All-weaker (HasNoOther marked) (HasNoOther (bit_or marked mask)) (λ m kept q small none. kept q small (omega (arith, bit_at_or marked mask q, none))) masks within)
-
--- all but a slot that is taken out
-pub within_fewer : (marked slot : ℕ) (masks : List ℕ) → slot < 64 → All (HasNoOther marked) masks → All (HasNoOther (clear_bit slot marked)) (cleared masks slot)
-within_fewer marked slot masks small within =
-    All-set (HasNoOther (clear_bit slot marked)) (map (clear_bit slot) masks) slot 0 (λ q lt none. bit_at-zero q)
-    (All-map (HasNoOther (clear_bit slot marked)) (clear_bit slot) masks (All-weaker (HasNoOther marked) (λ m. HasNoOther (clear_bit slot marked) (clear_bit slot m)) fewer masks within))
-  where
-    fewer : (m : ℕ) → HasNoOther marked m → HasNoOther (clear_bit slot marked) (clear_bit slot m)
-    fewer m kept q lt none =
-        (elim (q == slot) as (λ b. (q == slot) ≡ b → bit_at (clear_bit slot m) q ≡ 0) [
-          | true ↦ λ e. subst (λ r. bit_at (clear_bit slot m) r ≡ 0) (sym (eqb-true q slot e)) (bit_at_clear_same w64 m slot small)
-          | false ↦ λ e. bit_at_clear_other w64 m slot small q lt (eqb-false q slot e) ∙ kept q lt (sym (bit_at_clear_other w64 marked slot small q lt (eqb-false q slot e)) ∙ none)
-        ]) refl
-
 -- a mask that does not have the slot stays
-clear_none : (slot mask : ℕ) → slot < 64 → mask < 2 ^ 64 → bit_at mask slot ≡ 0 → clear_bit slot mask ≡ mask
+pub clear_none : (slot mask : ℕ) → slot < 64 → mask < 2 ^ 64 → bit_at mask slot ≡ 0 → clear_bit slot mask ≡ mask
 clear_none slot mask small fits none =
     same_from_bits_below 64 (clear_bit slot mask) mask (omega (arith, and_le_l mask (bit_not w64 (1 * 2 ^ slot % 2 ^ 64)), fits)) fits
     (λ q lt. (elim (q == slot) as (λ b. (q == slot) ≡ b → bit_at (clear_bit slot mask) q ≡ bit_at mask q) [
       | true ↦ λ e. subst (λ r. bit_at (clear_bit slot mask) r ≡ bit_at mask r) (sym (eqb-true q slot e)) (bit_at_clear_same w64 mask slot small ∙ sym none)
       | false ↦ λ e. bit_at_clear_other w64 mask slot small q lt (eqb-false q slot e)
     ]) refl)
-
--- and so do all where no mask may have it
-pub clear_none_of : (marked slot : ℕ) (masks : List ℕ) → slot < 64 → All (λ m. m < 2 ^ 64) masks → All (HasNoOther marked) masks → bit_at marked slot ≡ 0 → masks ≡ map (clear_bit slot) masks
-clear_none_of marked slot masks small fits within none =
-    sym (map_fixed (clear_bit slot) masks (λ k d lt. clear_none slot (get_or masks k d) small (fits k d lt) (within k d lt slot small none)))

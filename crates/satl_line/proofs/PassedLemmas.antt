@@ -1,16 +1,17 @@
 -- How far a search over slots has come.
-use Rattle.std.proofs.Common.{◌≡◌, ◌⊎◌, inl, inr, subst, suc, zero, cond, Some, Option, ◌^◌, ◌∙◌, ap, sym, arith, ℕ, ◌+◌, ◌≤◌, ◌<◌, Bool, true, false, List, [], ◌∷◌, ◌++◌, length, take, drop, get_or, refl}
+use Rattle.std.proofs.Common.{◌≡◌, ◌⊎◌, inl, inr, subst, suc, zero, cond, None, Some, Option, ◌^◌, ◌∙◌, ap, sym, arith, ℕ, ◌+◌, ◌≤◌, ◌<◌, Bool, true, false, List, [], ◌∷◌, ◌++◌, length, take, drop, get_or, refl}
 use Rattle.std.specs.Prelude.{◌==◌, bit_and, remove}
 use Rattle.std.specs.Int.{bit_at, bit_not, w64}
 use Rattle.std.specs.Option.{unwrap_or}
 use Rattle.std.specs.List.{AllByRecursion, position_from}
-use Rattle.std.proofs.lemmas.Bool.{eqb-false}
+use Rattle.std.proofs.lemmas.Bool.{eqb-false, ne_eqb}
 use Rattle.std.proofs.lemmas.List.{length-append, take-append-le}
 use Rattle.std.proofs.lemmas.Nat.Bits.{bit_at-lt, bit_at-zero, bit_at_and, bit_at_not, bit_at_clear_other}
 use Rattle.std.proofs.lemmas.List.Edits.{length-remove}
 use Rattle.satl_line.specs.declared.passed.Passed.{Passed}
-use Rattle.satl_line.specs.Layout.{HasPassed, clear_bit}
+use Rattle.satl_line.specs.Layout.{HasPassed, IsTakenMask, clear_bit}
 use Rattle.satl_line.specs.Tasks.{count_of}
+use Rattle.satl_line.proofs.AmongLemmas.{all_counted}
 use Rattle.satl_line.proofs.SlotsLemmas.{All-at, count-append, count_one, head_out}
 
 -- ---- searches
@@ -41,6 +42,13 @@ before_found p (x ∷ xs) i =
       | false ↦ λ e. let rest = before_found p xs (i + 1) in
           (suc rest.0, ap (unwrap_or (position_from p (i + 1) xs)) (omega arith) ∙ rest.1 ∙ omega arith, omega (arith, rest.2), (e, rest.3))
     ]) refl
+
+-- nothing is found where all fail
+none_found : {X : Type 0} (p : X → Bool) (xs : List X) (i from : ℕ) → AllByRecursion (λ x. p x ≡ false) xs → position_from p i (drop from xs) ≡ None
+none_found p [] i zero fail = refl
+none_found p [] i (suc from) fail = refl
+none_found p (x ∷ xs) i zero fail = rw fail.0 (none_found p xs (i + 1) 0 fail.1)
+none_found p (x ∷ xs) i (suc from) fail = none_found p xs i from fail.1
 
 -- ---- lists without a place
 
@@ -84,6 +92,16 @@ bit_in a b q fits small none some =
 all_in : (a b : ℕ) (xs : List ℕ) → b < 2 ^ 64 → bit_and a (bit_not w64 b) ≡ 0 → AllByRecursion (λ q. q < 64) xs → AllByRecursion (λ q. (bit_at a q == 0) ≡ false) xs → AllByRecursion (λ q. (bit_at b q == 0) ≡ false) xs
 all_in a b [] fits none small some = tt
 all_in a b (x ∷ xs) fits none small some = (bit_in a b x fits small.0 none some.0, all_in a b xs fits none small.1 some.1)
+
+-- where each slot that is taken is among some, none is outside these
+pub none_outside : (order listed : List ℕ) (taken slots from : ℕ) → order ≡ listed → IsTakenMask order taken → AllByRecursion (λ q. q < 64) order → slots < 2 ^ 64 → bit_and taken (bit_not w64 slots) ≡ 0 → position_from (λ slot. bit_at slots slot == 0) from (drop from listed) ≡ None
+none_outside order listed taken slots from is held small fits none =
+    ap (λ xs. position_from (λ slot. bit_at slots slot == 0) from (drop from xs)) (sym is)
+    ∙ none_found (λ slot. bit_at slots slot == 0) order from from (all_in taken slots order fits none small (are_taken order small (all_counted order)))
+  where
+    are_taken : (xs : List ℕ) → AllByRecursion (λ q. q < 64) xs → AllByRecursion (λ q. 0 < count_of q order) xs → AllByRecursion (λ q. (bit_at taken q == 0) ≡ false) xs
+    are_taken [] small some = tt
+    are_taken (x ∷ xs) small some = (ne_eqb (bit_at taken x) 0 (λ zero. omega (arith, zero, held x small.0, some.0)), are_taken xs small.1 some.1)
 
 -- a slot that none of these is
 not_cleared : (slot slots : ℕ) (xs : List ℕ) → slot < 64 → AllByRecursion (λ q. q < 64) xs → count_of slot xs ≡ 0 → AllByRecursion (λ q. (bit_at slots q == 0) ≡ false) xs → AllByRecursion (λ q. (bit_at (clear_bit slot slots) q == 0) ≡ false) xs

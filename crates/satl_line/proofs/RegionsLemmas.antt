@@ -1,12 +1,12 @@
 -- The slots near blocks, as tasks come and go.
-use Rattle.std.proofs.Common.{◌≡◌, refl, sym, ◌∙◌, ap, subst, ℕ, suc, zero, ◌+◌, ◌-◌, ◌%◌, ◌^◌, ◌<◌, ◌≤◌, Bool, true, false, List, [], ◌∷◌, length, get_or, set, arith, bit_or, ◌⊎◌, ⊎_elim, inl, inr}
+use Rattle.std.proofs.Common.{◌≡◌, refl, sym, ◌∙◌, ap, subst, ℕ, suc, zero, ◌+◌, ◌-◌, ◌%◌, ◌^◌, ◌<◌, ◌≤◌, Bool, true, false, List, [], ◌∷◌, length, get_or, set, arith, bit_and, bit_or, ◌⊎◌, ⊎_elim, inl, inr}
 use Rattle.std.specs.Prelude.{MatchBool, not, nat_lt, ◌==◌, ◌||◌, ◌&&◌, remove}
 use Rattle.std.specs.Int.{bit_at, w64}
 use Rattle.std.specs.List.{AllByRecursion}
 use Rattle.std.proofs.lemmas.Bool.{eqb-true, eqb-false, ltb-false, false_from_ne_true, or_parts}
 use Rattle.std.proofs.lemmas.List.{get_or-set_same, get_or-set_other}
 use Rattle.std.proofs.Math.ListN.{length-set}
-use Rattle.std.proofs.lemmas.Nat.Bits.{bit_at_or, bit_at_ones, bit_at_set_same, bit_at_set_other, bit_at_clear_other}
+use Rattle.std.proofs.lemmas.Nat.Bits.{bit_at_and, bit_at_or, bit_at_set_same, bit_at_set_other, bit_at_clear_other}
 use Rattle.satl_line.specs.declared.outline.Outline.{Outline}
 use Rattle.satl_line.specs.declared.regions.Regions.{Regions}
 use Rattle.satl_line.specs.Layout.{clear_bit, with_slot}
@@ -135,17 +135,15 @@ module _ (near : List ℕ) (q : ℕ) (p : Outline) (none : bit_at (get_or near (
       meeting false true h = absurd cc
       meeting true b h = absurd cc
 
--- all slots are beside a broad task
-pub all_beside : (regions : Regions) (p : Outline) → HasAllNear regions p (2 ^ 64 - 1)
-all_beside regions p = λ slot other lt near none. absurd (omega (arith, none, bit_at_ones 64 slot lt))
-
--- else those that are near
-pub near_beside : (regions : Regions) (p : Outline) (among : ℕ) → is_broad p ≡ false → among ≡ bit_or (bit_or regions.broad (get_or regions.near (region_of p.span.first) 0)) (get_or regions.near (region_of p.span.last) 0) → HasAllNear regions p among
-near_beside regions p among narrow is = λ slot other lt near none.
-    let bits = bit_at_or (bit_or regions.broad (get_or regions.near (region_of p.span.first) 0)) (get_or regions.near (region_of p.span.last) 0) slot in
-    let bits' = bit_at_or regions.broad (get_or regions.near (region_of p.span.first) 0) slot in
+-- those of some slots that are near
+pub near_beside : (regions : Regions) (p : Outline) (some these : ℕ) → is_broad p ≡ false → these ≡ bit_and some (bit_or regions.broad (bit_or (get_or regions.near (region_of p.span.first) 0) (get_or regions.near (region_of p.span.last) 0))) → HasAllNear regions p some these
+near_beside regions p some these narrow is = λ slot other lt near one none.
+    let marks = bit_or (get_or regions.near (region_of p.span.first) 0) (get_or regions.near (region_of p.span.last) 0) in
+    let both = bit_at_and some (bit_or regions.broad marks) slot in
+    let bits = bit_at_or regions.broad marks slot in
+    let bits' = bit_at_or (get_or regions.near (region_of p.span.first) 0) (get_or regions.near (region_of p.span.last) 0) slot in
     let zero_bit = ap (λ n. bit_at n slot) (sym is) ∙ none in
-    by other slot (is_broad other) refl near (omega (arith, bits, bits', zero_bit)) (omega (arith, bits, bits', zero_bit)) (omega (arith, bits, bits', zero_bit))
+    by other slot (is_broad other) refl near (omega (arith, both, bits, bits', zero_bit, one)) (omega (arith, both, bits, bits', zero_bit, one)) (omega (arith, both, bits, bits', zero_bit, one))
   where
     by : (o : Outline) (q : ℕ) (b : Bool) → is_broad o ≡ b → MatchBool b (bit_at regions.broad q ≡ 1) (HasMark regions.near o.span.first q × HasMark regions.near o.span.last q) →
         bit_at regions.broad q ≡ 0 → bit_at (get_or regions.near (region_of p.span.first) 0) q ≡ 0 → bit_at (get_or regions.near (region_of p.span.last) 0) q ≡ 0 → OutlinesApart o p

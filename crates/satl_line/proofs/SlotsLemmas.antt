@@ -2,7 +2,7 @@
 use Rattle.std.proofs.Common.{◌≡◌, refl, sym, ◌∙◌, ap, subst, ℕ, zero, suc, ◌+◌, ◌-◌, ◌*◌, ◌%◌, ◌<◌, ◌≤◌, ◌^◌, Bool, true, false, cond, List, [], ◌∷◌, ◌++◌, Some, map, length, take, drop, get_or, set, arith, append_assoc, add-one, ◌⊎◌, ⊎_elim, inl, inr, bit_or}
 use Rattle.std.specs.Prelude.{not, nat_lt, ◌==◌, ◌||◌, ◌&&◌, if◌then◌else◌, slice_get, unwrap_or, replicate}
 use Rattle.std.specs.Option.{option_map}
-use Rattle.std.specs.List.{list_any, All, AllByRecursion, IsDistinct, remove, position_from}
+use Rattle.std.specs.List.{list_any, AllByRecursion, IsDistinct, remove, position_from}
 use Rattle.std.specs.Int.Bits.{and_zero_l}
 use Rattle.std.specs.Int.{bit_at, bit_not, w64}
 use Rattle.std.proofs.lemmas.Nat.Bits.{bit_at_set_same, bit_at_set_other, bit_at_clear_same, bit_at_clear_other, bit_at-zero}
@@ -22,10 +22,10 @@ use Rattle.satl_line.specs.Outlines.{IsOutline, is_active, no_outline, outline_i
 use Rattle.satl_line.specs.Conflict.{access_of, conflicts}
 use Rattle.satl_line.specs.Eligible.{eligible_at, is_clear_by}
 use Rattle.satl_line.specs.Tasks.{AreOwnSlots, AreMasks, is_barred_from, entries_of, Held, count_of, slots_of, total_blocks, entry_at, Adds, with_body}
-use Rattle.satl_line.specs.Layout.{SlotAccess, mark_of, is_marked, IsMask, HaveMasks, IsMasked, clear_bit, cleared, held_in, tasks_in, AreNoted, IsNoted, HasNoOther, with_slot, CountLowBytes, has_low_byte, low_byte, one_fewer, one_more, SetInMemory, FitTogether, is_unbarred_at}
+use Rattle.satl_line.specs.Layout.{SlotAccess, mark_of, is_marked, IsMask, HaveMasks, IsMasked, clear_bit, cleared, held_in, tasks_in, AreNoted, IsNoted, with_slot, CountLowBytes, has_low_byte, low_byte, one_fewer, one_more, SetInMemory, FitTogether, is_unbarred_at}
 use Rattle.satl_line.proofs.CountsLemmas.{counted_few, counted_more, counted_out}
 use Rattle.satl_line.proofs.OutlinesLemmas.{EachIs, outline_with}
-use Rattle.satl_line.proofs.MasksLemmas.{bit, with_slot_here, with_slot_other, HasNot, AreSmall, is_struck, zero_mask, are_removed, are_added, within_none, within_more, within_fewer, get_or-cleared}
+use Rattle.satl_line.proofs.MasksLemmas.{bit, with_slot_here, with_slot_other, HasNot, AreSmall, is_struck, zero_mask, are_removed, are_added, get_or-cleared}
 
 -- ---- counts
 
@@ -205,7 +205,6 @@ without layout s e other order = record layout {
   order = order;
   free = layout.free ++ s ∷ [];
   masks = cleared layout.masks s;
-  marked = clear_bit s layout.marked;
   blocks = layout.blocks - e.blocks;
   active = clear_bit s layout.active;
   tag_counts = one_fewer layout.tag_counts e.tag;
@@ -242,7 +241,6 @@ sound_without layout front s back e other h is =
           full = subst (λ l. HaveMasks [] (map mark_of l) (cleared layout.masks s)) (sym same) (subst (λ l. HaveMasks [] l (cleared layout.masks s)) (sym whole) full);
           empty = λ q gone. empty_out q (ap (count_of q) (sym (slots_of_tasks (set layout.slots s other) (front ++ back))) ∙ gone);
         };
-        within = within_fewer layout.marked s layout.masks at h.within;
         outlined = record {
           room = h.outlined.room;
           each = entry_other layout.slots layout.outlines s other (front ++ back) none (All-append (λ q. IsOutline (get_or layout.slots q no_entry) (outline_in layout.outlines q)) front back
@@ -286,7 +284,6 @@ with_task layout s e o mask free = record {
   order = layout.order ++ s ∷ [];
   free = free;
   masks = set layout.masks s mask;
-  marked = bit_or layout.marked mask;
   blocks = layout.blocks + e.blocks;
   active = with_slot (is_active o) s layout.active;
   tag_counts = one_more layout.tag_counts e.tag;
@@ -317,7 +314,6 @@ sound_with layout free s mask e o own h fits is =
               (are_added (map mark_of (tasks_in layout.slots layout.order)) (record { slot = s; access = access_of e }) layout.masks mask (omega (arith, h.wide)) (has_not layout.slots s layout.order none) h.masked.full is));
           empty = λ q gone. empty_in q (ap (count_of q) (sym (slots_of_tasks (set layout.slots s e) (layout.order ++ s ∷ []))) ∙ gone);
         };
-        within = within_more layout.marked mask s layout.masks h.within;
         outlined = record {
           room = length-set layout.outlines s o ∙ h.outlined.room;
           each = All-append (λ q. IsOutline (get_or (set layout.slots s e) q no_entry) (outline_in (set layout.outlines s o) q)) layout.order (s ∷ []) (outline_other layout.slots layout.outlines s e o layout.order none h.outlined.each) (
@@ -420,16 +416,6 @@ comes_from layout freed s active' mask e read put o old order' tag_counts' own s
 pub counts_few : (layout : SetInMemory) (tag : Tag) → FitTogether layout → get_or layout.tag_counts (low_byte tag) 0 ≤ 64
 counts_few layout tag h = omega (arith, counted_few (tasks_in layout.slots layout.order) layout.tag_counts tag h.counted, length-map layout.order (held_in layout.slots), h.count)
 
--- the masks that were walked are changed, and the others are not
-pub walk_step : {X : Type 0} (f : X → X) (xs init : List X) (i : ℕ) (d : X) → xs ≡ map f (take i init) ++ drop i init → i < length init → set xs i (f (get_or xs i d)) ≡ map f (take (i + 1) init) ++ drop (i + 1) init
-walk_step f xs init i d is lt =
-    ap (λ l. set l i (f (get_or l i d))) is ∙ go init i lt ∙ ap (λ k. map f (take k init) ++ drop k init) (sym (add-one i))
-  where
-    go : (init : _) (i : ℕ) → i < length init → set (map f (take i init) ++ drop i init) i (f (get_or (map f (take i init) ++ drop i init) i d)) ≡ map f (take (suc i) init) ++ drop (suc i) init
-    go [] i lt = absurd (omega arith)
-    go (x ∷ xs) zero lt = refl
-    go (x ∷ xs) (suc i) lt = ap (λ l. f x ∷ l) (go xs i (omega arith))
-
 -- a number that stands at each place of a list
 pub get_or-replicate_same : (n q : ℕ) → ◌≡◌ {A = ℕ} (get_or {A = ℕ} (replicate {A = ℕ} n 0) q 0) 0
 get_or-replicate_same zero q = refl
@@ -438,9 +424,9 @@ get_or-replicate_same (suc n) (suc q) = get_or-replicate_same n q
 
 -- slots with nothing in them
 pub sound_new : (slots : List Entry) (outlines : List Outline) (free masks order tag_counts : List ℕ) → length outlines ≡ 64 → length slots ≡ 64 → order ≡ [] → masks ≡ replicate 64 0 → tag_counts ≡ replicate 256 0 → length free ≡ 64 → AllByRecursion (λ q. q < 64) free → ((q : ℕ) → q < 64 → count_of q free ≡ 1) →
-    FitTogether (record { slots = slots; outlines = outlines; order = order; free = free; masks = masks; marked = 0; blocks = 0; active = 0; tag_counts = tag_counts })
+    FitTogether (record { slots = slots; outlines = outlines; order = order; free = free; masks = masks; blocks = 0; active = 0; tag_counts = tag_counts })
 sound_new slots outlines free masks order tag_counts wide room none zeros nothing long small once =
-    subst (λ l. FitTogether (record { slots = slots; outlines = outlines; order = l; free = free; masks = masks; marked = 0; blocks = 0; active = 0; tag_counts = tag_counts })) (sym none) (record {
+    subst (λ l. FitTogether (record { slots = slots; outlines = outlines; order = l; free = free; masks = masks; blocks = 0; active = 0; tag_counts = tag_counts })) (sym none) (record {
       room = room;
       wide = ap length zeros;
       taken = tt;
@@ -448,7 +434,6 @@ sound_new slots outlines free masks order tag_counts wide room none zeros nothin
       once = λ q lt. omega (arith, once q lt);
       count = omega (arith, long);
       masked = record { full = tt; empty = λ q gone. ap (λ l. get_or l q 0) zeros ∙ get_or-replicate_same 64 q };
-      within = subst (All (HasNoOther 0)) (sym zeros) within_none;
       outlined = record { room = wide; each = tt };
       total = refl;
       few = omega arith;
@@ -533,7 +518,7 @@ entry_at_or slots order place d lt =
     ap (option_map (λ h. h.entry)) (slice_get-get_or (tasks_in slots order) place (held_in slots d) (omega (arith, length-map order (held_in slots))))
     ∙ ap (λ h. Some h.entry) (get_or-map (held_in slots) order place d)
 
-count_at : (order : List ℕ) (k s : ℕ) → k < length order → get_or order k 0 ≡ s → 1 ≤ count_of s order
+pub count_at : (order : List ℕ) (k s : ℕ) → k < length order → get_or order k 0 ≡ s → 1 ≤ count_of s order
 count_at [] k s lt is = absurd (omega arith)
 count_at (q ∷ qs) zero s lt is = let e = eq-eqb q s is in rw e (omega arith)
 count_at (q ∷ qs) (suc k) s lt is = let r = count_at qs k s (omega arith) is in omega arith
@@ -628,7 +613,6 @@ changes layout tasks place slot body slots' sound is lt read slots_is =
         full = subst (λ l. HaveMasks [] l layout.masks) (sym (marks_same layout.slots s body room layout.order)) sound.masked.full;
         empty = λ q gone. sound.masked.empty q (ap (count_of q) (slots_of_tasks layout.slots layout.order ∙ sym (slots_of_tasks (changed layout.slots s body room) layout.order)) ∙ gone);
       };
-      within = sound.within;
       outlined = record {
         room = sound.outlined.room;
         each = All-weaken (λ q. IsOutline (get_or layout.slots q no_entry) (outline_in layout.outlines q)) (λ q. IsOutline (get_or (changed layout.slots s body room) q no_entry) (outline_in layout.outlines q))

@@ -1,7 +1,7 @@
 -- How a set of tasks lies in memory: slots, the order of arrival, the free slots, and the masks (profile, all of it).
 use Rattle.std.specs.Prelude.{◌≡◌, ℕ, ◌+◌, ◌-◌, ◌*◌, ◌%◌, ◌^◌, ◌<◌, ◌≤◌, ◌==◌, Bool, false, ◌&&◌, if◌then◌else◌, nat_lt, List, [], ◌∷◌, ◌++◌, map, length, take, slice_index, slice_index_or, slice_set, bit_and, bit_or}
 use Rattle.std.specs.Int.{bit_at, bit_not, byte_at, w64}
-use Rattle.std.specs.List.{list_any, All, AllByRecursion}
+use Rattle.std.specs.List.{list_any, AllByRecursion}
 use Rattle.satl_base.specs.declared.request.Tag.{Tag}
 use Rattle.satl_base.specs.Limits.{most_held}
 use Rattle.satl_base.specs.Lists.{how_many}
@@ -61,10 +61,6 @@ clear_bit slot mask = bit_and mask (bit_not w64 (1 * 2 ^ slot % 2 ^ 64))
 -- the masks without a slot, whose own mask becomes 0
 abbrev pub cleared : List ℕ → ℕ → List ℕ
 cleared masks slot = slice_set (map (clear_bit slot) masks) slot 0
-
--- the mask has no slot but those whose bit in a number is 1
-abbrev pub HasNoOther : ℕ → ℕ → Type 0
-HasNoOther marked mask = (slot : ℕ) → slot < 64 → bit_at marked slot ≡ 0 → bit_at mask slot ≡ 0
 
 -- whether the mask of the task at a place is 0
 abbrev pub is_unbarred_at : List ℕ → List ℕ → ℕ → Bool
@@ -131,8 +127,6 @@ pub record SetInMemory : Type 0 where
   pub blocks : ℕ
   -- the slots whose task writes or stands alone, as the bits of a number
   pub active : ℕ
-  -- the slots that masks may have, as the bits of a number
-  pub marked : ℕ
   -- for each low byte of a tag the number of tasks that have it
   pub tag_counts : List ℕ
 
@@ -146,7 +140,6 @@ pub record FitTogether (layout : SetInMemory) : Type 0 where
   pub once : (slot : ℕ) → slot < 64 → count_of slot layout.order + count_of slot layout.free ≡ 1
   pub count : length layout.order + length layout.free ≡ 64
   pub masked : IsMasked (tasks_in layout.slots layout.order) layout.masks
-  pub within : All (HasNoOther layout.marked) layout.masks
   pub outlined : AreOutlines layout.slots layout.outlines layout.order
   pub total : total_blocks (tasks_in layout.slots layout.order) ≡ layout.blocks
   pub few : layout.blocks ≤ most_held

@@ -46,10 +46,11 @@ pub record OutlinesApart (a b : Outline) : Type 0 where
   pub alone : (a.alone || b.alone) ≡ false
   pub spans : spans_meet a.span b.span ≡ false
 
--- a slot that is noted and not among these has a task that lies apart from this one
-abbrev pub HasAllNear : Regions → Outline → ℕ → Type 0
-HasAllNear regions outline among =
-    (slot : ℕ) (other : Outline) → slot < 64 → IsNear regions slot other → bit_at among slot ≡ 0 → OutlinesApart other outline
+-- each of some slots that is noted and not among these has a task that lies apart from this one
+abbrev pub HasAllNear : Regions → Outline → ℕ → ℕ → Type 0
+HasAllNear regions outline some these =
+    (slot : ℕ) (other : Outline) → slot < 64 → IsNear regions slot other → bit_at some slot ≡ 1 → bit_at these slot ≡ 0
+    → OutlinesApart other outline
 
 -- a task whose slot is not among these does not conflict with this one
 abbrev pub MayLeaveOut : Entry → ℕ → Held → Type 0

@@ -1,5 +1,6 @@
 // Which slots have a task near which blocks: so a task that comes is held against few of those that wait.
-ghost use Rattle.std.specs.Prelude.{◌≡◌, ◌<◌, ◌==◌, ℕ, false, length, slice_index};
+ghost use Rattle.std.specs.Prelude.{◌≡◌, ◌≤◌, ◌<◌, ◌==◌, ℕ, false, length, slice_index};
+ghost use Rattle.std.specs.Int.{bit_at};
 ghost use Rattle.satl_line.specs.declared.outline.Outline.{Outline};
 ghost use Rattle.satl_line.specs.Regions.{IsNear, HasAllNear, is_broad, region_of, with_mark, without_mark};
 
@@ -59,17 +60,19 @@ impl Regions {
         unmark(&mut self.near, outline.last(), slot);
     }
 
-    /// The slots, as the bits of a number, whose task may conflict with this one. A slot that is noted and not among them has a
-    /// task that lies apart from it.
-    pub fn beside(&self, outline: &Outline) -> u64
+    /// Those of some slots, the bits of a number, whose task may conflict with this one. Each of them that is noted and left out
+    /// has a task that lies apart from it.
+    // Where there are none, no region is looked at.
+    pub fn beside(&self, outline: &Outline, among: u64) -> u64
         requires { length self.now.near ≡ 256 }
-        ensures { HasAllNear self.now outline.now result }
+        ensures within { (slot : ℕ) → bit_at result slot ≤ bit_at among slot }
+        ensures apart { HasAllNear self.now outline.now among result }
     {
-        if is_broad(outline) {
-            u64::MAX
-        } else {
-            self.broad | marks(&self.near, outline.first()) | marks(&self.near, outline.last())
+        if among == 0 || is_broad(outline) {
+            return among;
         }
+        let near = marks(&self.near, outline.first()) | marks(&self.near, outline.last());
+        among & (self.broad | near)
     }
 }
 

@@ -1,14 +1,14 @@
 // The tasks in order of arrival, each in a slot of its own.
-ghost use Rattle.std.specs.Prelude.{◌≡◌, ◌≤◌, ◌<◌, ◌==◌, ◌^◌, if◌then◌else◌, ℕ, false, [], drop, map, length, not, remove, replicate, Some, IfOk, OnOk, OnErr, is_err, slice_get, slice_index, slice_set};
+ghost use Rattle.std.specs.Prelude.{◌≡◌, ◌≤◌, ◌<◌, ◌==◌, ◌^◌, if◌then◌else◌, ℕ, false, [], drop, map, length, remove, replicate, Some, IfOk, OnOk, OnErr, is_err, slice_get, slice_index, slice_set};
 ghost use Rattle.std.specs.Int.{bit_at};
 ghost use Rattle.std.specs.Option.{option_copied, option_map};
-ghost use Rattle.std.specs.List.{All, AllByRecursion, position_from};
+ghost use Rattle.std.specs.List.{AllByRecursion, position_from};
 ghost use Rattle.satl_base.specs.Limits.{most_held, most_tasks};
 ghost use Rattle.satl_base.specs.Lists.{change_at};
 ghost use Rattle.satl_line.specs.Conflict.{access_of, conflicts};
 ghost use Rattle.satl_line.specs.Eligible.{eligible_at};
 ghost use Rattle.satl_line.specs.Tasks.{Adds, AreMasks, AreOwnSlots, IsBarredMask, IsReadyMask, count_of, entries_of, entry_at, is_named, is_too_much, slots_of, total_blocks, with_body};
-ghost use Rattle.satl_line.specs.Layout.{AreBarred, IsMask, IsMaskAmong, HasNoOther, clear_bit, cleared, held_in, is_unbarred_at, low_byte, mark_of, one_fewer, one_more, with_slot};
+ghost use Rattle.satl_line.specs.Layout.{AreBarred, IsMask, IsMaskAmong, cleared, held_in, is_unbarred_at, low_byte, mark_of, one_fewer, one_more, with_slot};
 ghost use Rattle.satl_line.specs.Outlines.{IsOutline, is_of_name, no_outline, outline_in, outlines_in};
 ghost use Rattle.satl_line.specs.Regions.{AllHaveTasks, MayLeaveOut};
 
@@ -45,8 +45,6 @@ pub struct TaskSet {
     order: Sequence<u8, ORDER_ROOM>,
     free: ArrayVec<u8, MOST_TASKS>,
     masks: [u64; MOST_TASKS],
-    // The slots that masks may have, as the bits of a number: mostly none.
-    marked: u64,
     blocks: u32,
     // The slots with a task, and those whose task writes or stands alone, as the bits of numbers.
     taken: u64,
@@ -77,7 +75,6 @@ impl Model for TaskSet {
       order = s.order;
       free = s.free.items;
       masks = s.masks;
-      marked = s.marked;
       blocks = s.blocks;
       active = s.active;
       tag_counts = s.tag_counts;
@@ -104,7 +101,6 @@ impl TaskSet {
             order: Sequence::new(),
             free,
             masks: no_masks(),
-            marked: 0,
             blocks: 0,
             taken: 0,
             active: 0,
@@ -154,7 +150,6 @@ impl TaskSet {
             unreachable!();
         };
         self.masks[slot as usize] = mask;
-        self.marked |= mask;
         self.taken |= 1 << slot;
         self.active = with_slot(self.active, slot, outline.is_active());
         self.barred = with_slot(self.barred, slot, mask != 0);
@@ -175,13 +170,13 @@ impl TaskSet {
     {
         let slot = self.order.remove(place);
         mem::swap(&mut self.slots[slot as usize], task);
-        self.barred = clear_slot(&mut self.masks, slot, self.marked, self.barred);
-        self.marked &= !(1 << slot);
+        let outline = self.outlines[slot as usize];
+        let waiting = self.regions.beside(&outline, self.barred);
+        self.barred = clear_slot(&mut self.masks, slot, waiting, self.barred);
+        self.regions.forget(slot, &outline);
         self.taken &= !(1 << slot);
         self.active &= !(1 << slot);
         self.passed = self.passed.without(place, slot);
-        let outline = self.outlines[slot as usize];
-        self.regions.forget(slot, &outline);
         self.free.push(slot);
         let entry = task.entry();
         count_down(&mut self.tag_counts, entry.tag);
@@ -281,12 +276,16 @@ impl TaskSet {
 
     /// The first place, from this one on, of a task whose slot is not among these, the bits of a number. None exactly where
     /// there is none (profile).
-    // Among the same slots, with those that came since, it begins where the last search from the first place on has ended.
+    // Where each task lies in one of these slots, no place is looked at. Else the search begins, among the same slots with those
+    // that came since, where the last one from the first place on has ended.
     pub fn first_outside(&mut self, from: usize, slots: u64) -> Option<usize>
         requires { from ≤ length self.old }
         ensures value { result ≡ position_from (λ slot. bit_at slots slot == 0) from (drop from (slots_of self.old)) }
         ensures same { self.new ≡ self.old }
     {
+        if self.taken & !slots == 0 {
+            return None;
+        }
         let start = self.passed.start(self.order.as_slice(), from, slots);
         let found = first_outside(self.order.as_slice(), start, slots);
         if from == 0 {
@@ -321,11 +320,10 @@ impl TaskSet {
         ensures taken { AllHaveTasks self.now result }
         ensures others { AllByRecursion (MayLeaveOut entry.now result) self.now }
     {
-        let beside = self.regions.beside(outline);
         if outline.is_active() {
-            beside & self.taken
+            self.regions.beside(outline, self.taken)
         } else {
-            beside & self.active
+            self.regions.beside(outline, self.active)
         }
     }
 }
@@ -449,59 +447,31 @@ fn conflicts_in(
         || (other.may_meet(outline) && conflict(entry_in(slots, slot), entry))
 }
 
-/// Whether a mask may have a slot. Where none has it, to take it out changes none.
-fn may_have(masks: &[u64], slot: u8, marked: u64) -> bool
-    requires small { slot < 64 }
-    requires within { All (HasNoOther marked) masks.now }
-    ensures { result ≡ false → masks.now ≡ map (clear_bit slot) masks.now }
-{
-    has_slot(marked, slot)
-}
-
-/// Takes a slot out of all masks, makes its own 0, and gives the slots that are still barred. The masks are looked at only where
-/// they may have it.
-fn clear_slot(masks: &mut [u64], slot: u8, marked: u64, barred: u64) -> u64
+/// Takes a slot out of the masks of these slots, the bits of a number, makes its own 0, and gives the slots that are still
+/// barred. No other mask has it.
+// It takes a step for each of these slots, of which there are mostly few.
+fn clear_slot(masks: &mut [u64], slot: u8, these: u64, barred: u64) -> u64
     requires small { slot < 64 }
     requires room { length masks.old ≡ 64 }
-    requires within { All (HasNoOther marked) masks.old }
+    requires others { (other : ℕ) → other < 64 → bit_at these other ≡ 0 → bit_at (slice_index masks.old other) slot ≡ 0 }
     requires barred { AreBarred masks.old barred }
     ensures cleared { masks.new ≡ cleared masks.old slot }
     ensures barred { AreBarred masks.new result }
 {
-    let others = barred & !(1 << slot);
-    if !may_have(masks, slot, marked) {
-        masks[slot as usize] = 0;
-        return others;
-    }
-    clear_in_all(masks, slot);
+    have_64_bits(masks);
     masks[slot as usize] = 0;
-    barred_among(masks, others)
-}
-
-/// Those of some slots, the bits of a number, whose mask is not 0.
-// It takes a step for each of them, of which there are mostly few.
-fn barred_among(masks: &[u64], among: u64) -> u64
-    requires room { length masks.now ≡ 64 }
-    ensures { (slot : ℕ) → slot < 64
-        → bit_at result slot ≡ (if not (slice_index masks.now slot == 0) then bit_at among slot else 0) }
-{
-    let mut barred = 0u64;
-    let mut rest = among;
+    let mut barred = barred & !(1 << slot);
+    let mut rest = these;
     while rest != 0 {
-        let slot = lowest_slot(rest);
-        rest &= !(1 << slot);
-        barred = with_slot(barred, slot, mask_at(masks, slot) != 0);
+        let other = lowest_slot(rest);
+        rest &= !(1 << other);
+        let mask = mask_at(masks, other) & !(1 << slot);
+        masks[other as usize] = mask;
+        if mask == 0 {
+            barred &= !(1 << other);
+        }
     }
     barred
-}
-
-fn clear_in_all(masks: &mut [u64], slot: u8)
-    requires { slot < 64 }
-    ensures { masks.new ≡ map (clear_bit slot) masks.old }
-{
-    for mask in masks.iter_mut() {
-        *mask &= !(1 << slot);
-    }
 }
 
 /// The places whose task has a mask of 0, as the bits of a number.

@@ -3,9 +3,14 @@ use Rattle.std.proofs.lemmas.List.{length-map}
 use Rattle.satl_line.specs.Layout.{held_in, one_fewer}
 use Rattle.satl_line.proofs.PassedLemmas.{without_slot}
 use Rattle.satl_line.proofs.AmongLemmas.{taken_without}
-use Rattle.satl_line.proofs.NearLemmas.{near_without, slot_gone}
+use Rattle.satl_line.proofs.NearLemmas.{near_without, only_near_wait, slot_gone}
 use Rattle.satl_line.proofs.SlotsLemmas.{leaves}
 use Rattle.satl_line.proofs.set.TaskSet.remove.Goals as goal
+
+pub clear_slot-self-inside-requires-clause-others : goal.clear_slot-self-inside-requires-clause-others
+clear_slot-self-inside-requires-clause-others c =
+    only_near_wait _ c.self.inside.regions c.args.place c.remove-slot.result c.self.inside.barred c.beside-waiting.result c.index-self-slot.result c.self.invariant.0 c.self.invariant.2 c.self.invariant.4
+    (omega (arith, length-map c.self.inside.order (held_in c.self.inside.slots.items), ap length c.self.view_is, c.requires)) c.remove-slot.ensures.value c.beside-waiting.ensures.apart
 
 pub count_down-requires-clause-some : goal.count_down-requires-clause-some
 count_down-requires-clause-some c =
