@@ -10,7 +10,7 @@ use Rattle.satl_disk.specs.Sectors.{written_stable}
 use Rattle.satl_base.specs.declared.block.Block.{Block}
 use Rattle.satl_base.specs.Blocks.{zero_block}
 use Rattle.satl_base.specs.Lists.{paired}
-use Rattle.satl_disk.specs.Layout.{AreSlots, HasSlot, block_at, slot_at, stable_at, stable_of}
+use Rattle.satl_disk.specs.Layout.{AreSlots, HasSlot, block_at, slot_at, slot_given, stable_at, stable_of}
 
 -- two lists side by side
 pub paired-length : {A B C : Type 0} (f : A → B → C) (xs : List A) (ys : List B) → length xs ≡ length ys → length (paired f xs ys) ≡ length ys
@@ -22,12 +22,50 @@ pub paired-replicate : {A B C : Type 0} (f : A → B → C) (x : A) (y : B) (n :
 paired-replicate f x y zero = refl
 paired-replicate f x y (suc n) = ap (λ zs. f x y ∷ zs) (paired-replicate f x y n)
 
+-- where one value of the first list decides
+pub paired-first : {A B C : Type 0} (f : A → B → C) (x : A) (z : C) → ((y : B) → f x y ≡ z) → (ys : List B) (n : ℕ) → n ≡ length ys → paired f (replicate n x) ys ≡ replicate n z
+paired-first f x z is [] zero h = refl
+paired-first f x z is [] (suc n) h = absurd (omega arith)
+paired-first f x z is (y ∷ ys) zero h = absurd (omega arith)
+paired-first f x z is (y ∷ ys) (suc n) h = ap (λ a. a ∷ paired f (replicate n x) ys) (is y) ∙ ap (λ zs. z ∷ zs) (paired-first f x z is ys n (omega arith))
+
+pub paired-set : {A B C : Type 0} (f : A → B → C) (xs : List A) (ys : List B) (place : ℕ) (x : A) (y : B) → paired f (slice_set xs place x) (slice_set ys place y) ≡ slice_set (paired f xs ys) place (f x y)
+paired-set f [] ys place x y = refl
+paired-set f (a ∷ xs) [] zero x y = refl
+paired-set f (a ∷ xs) [] (suc place) x y = refl
+paired-set f (a ∷ xs) (b ∷ ys) zero x y = refl
+paired-set f (a ∷ xs) (b ∷ ys) (suc place) x y = ap (λ zs. f a b ∷ zs) (paired-set f xs ys place x y)
+
 pub paired-at : {A B C : Type 0} (f : A → B → C) (xs : List A) (ys : List B) (place : ℕ) (x : A) (y : B) (z : C) → place < length ys → length xs ≡ length ys →
     f (slice_index_or xs place x) (slice_index_or ys place y) ≡ slice_index_or (paired f xs ys) place z
 paired-at f [] ys place x y z h size = absurd (omega arith)
 paired-at f (a ∷ xs) [] place x y z h size = absurd (omega arith)
 paired-at f (a ∷ xs) (b ∷ ys) zero x y z h size = refl
 paired-at f (a ∷ xs) (b ∷ ys) (suc place) x y z h size = paired-at f xs ys place x y z (omega arith) (omega arith)
+
+-- the slots as they are kept: whether a sector was given one, and which
+module _ (given : List Bool) (numbers : List ℕ) (olds : List (Option ℕ)) (view : paired slot_given given numbers ≡ olds) (size : length given ≡ length numbers) where
+  pub lengths_are : (length olds ≡ length given) × (length olds ≡ length numbers)
+  lengths_are = let both = paired-length slot_given given numbers size in (omega (arith, both, ap length view, size), omega (arith, both, ap length view))
+
+  -- what is read of them at a place
+  module _ (place : ℕ) (within : place < length olds) (has : Bool) (has_is : has ≡ slice_index_or given place false) where
+    read : (slot : ℕ) → slot ≡ slice_index_or numbers place slot → slot_given has slot ≡ slot_at (paired slot_given given numbers) place
+    read slot slot_is =
+        ap (λ b. slot_given b slot) has_is ∙ ap (slot_given (slice_index_or given place false)) slot_is
+        ∙ paired-at slot_given given numbers place false slot None (omega (arith, within, lengths_are.1)) size
+
+    pub has_slot : has ≡ true → (slot : ℕ) → slot ≡ slice_index_or numbers place slot → Some slot ≡ slot_at (paired slot_given given numbers) place
+    has_slot on slot slot_is = sym (ap (λ b. slot_given b slot) on) ∙ read slot slot_is
+
+    pub has_none : has ≡ false → None ≡ slot_at (paired slot_given given numbers) place
+    has_none off =
+        sym (ap (λ b. slot_given b (slice_index_or numbers place 0)) off)
+        ∙ read (slice_index_or numbers place 0) (get_or_default numbers place 0 (slice_index_or numbers place 0) (omega (arith, within, lengths_are.1)))
+
+  -- all are taken back
+  pub none_given : (cleared : List Bool) → cleared ≡ replicate (length given) false → paired slot_given cleared numbers ≡ replicate (length given) None
+  none_given cleared is = ap (λ g. paired slot_given g numbers) is ∙ paired-first slot_given false None (λ y. refl) numbers (length given) size
 
 -- a sector takes a slot: one more is taken
 taken_more : (slots : List (Option ℕ)) (place k : ℕ) → place < length slots → slot_at slots place ≡ None → count_by is_some (slice_set slots place (Some k)) ≡ suc (count_by is_some slots)
@@ -62,12 +100,9 @@ whose (s ∷ slots) (suc place) slot zero k h = inr h
 whose (s ∷ slots) (suc place) slot (suc at) k h = elim (whose slots place slot at k h) [ inl w ↦ inl (ap suc w.0, w.1) | inr e ↦ inr e ]
 
 -- the slots as they are seen, and what was read of them at a place
-module _ (used : ℕ) (slots olds : List (Option ℕ)) (view : slots ≡ olds) (are : AreSlots used slots) (place : ℕ) (within : place < length olds) (n : Option ℕ) (was : n ≡ slice_index_or slots place n) where
+module _ (used : ℕ) (slots olds : List (Option ℕ)) (view : slots ≡ olds) (are : AreSlots used slots) (place : ℕ) (within : place < length olds) (n : Option ℕ) (slot_is : n ≡ slot_at slots place) where
   here : place < length slots
   here = omega (arith, ap length view, within)
-
-  slot_is : n ≡ slot_at slots place
-  slot_is = was ∙ get_or_default slots place n None here
 
   pub slot_within : IfSome n (λ slot. slot < length olds)
   slot_within = by n slot_is
@@ -123,10 +158,7 @@ clean_have (s ∷ slots) zero h = absurd (omega arith)
 clean_have (s ∷ slots) (suc n) h = (tt, clean_have slots n (omega arith))
 
 pub clean_stables : (kept : List Block) (slots : List (Option ℕ)) (n : ℕ) → n ≡ length slots → paired (stable_of kept) (replicate n false) slots ≡ replicate n None
-clean_stables kept [] zero h = refl
-clean_stables kept [] (suc n) h = absurd (omega arith)
-clean_stables kept (s ∷ slots) zero h = absurd (omega arith)
-clean_stables kept (s ∷ slots) (suc n) h = ap (λ os. None ∷ os) (clean_stables kept slots n (omega arith))
+clean_stables kept slots n h = paired-first (stable_of kept) false None (λ s. refl) slots n h
 
 -- a sector gets clean
 pub cleared_has : (ds : List Bool) (slots : List (Option ℕ)) (place : ℕ) → AllZip HasSlot ds slots → AllZip HasSlot (slice_set ds place false) slots

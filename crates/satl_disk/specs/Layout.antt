@@ -30,6 +30,11 @@ zipped f (x ∷ xs) (y ∷ ys) (z ∷ zs) = f x y z ∷ zipped f xs ys zs
 abbrev pub marked_in : ℕ → List ℕ → List Bool
 marked_in round rounds = map (λ r. r == round) rounds
 
+-- a sector's slot, where it was given one
+abbrev pub slot_given : Bool → ℕ → Option ℕ
+slot_given true slot = Some slot
+slot_given false slot = None
+
 -- the slot of the sector at a place, none behind the end
 abbrev pub slot_at : List (Option ℕ) → ℕ → Option ℕ
 slot_at slots place = slice_index_or slots place None

@@ -1,29 +1,35 @@
 // The slots that the sectors of the modelled drive have in the store of old blocks.
-ghost use Rattle.std.specs.Prelude.{◌≡◌, ℕ, ◌<◌, ◌≢◌, None, Option, Some, IfOk, IfSome, count_by, is_some, length, replicate, slice_set};
+ghost use Rattle.std.specs.Prelude.{◌≡◌, ℕ, ◌<◌, ◌≢◌, None, Option, Some, IfOk, IfSome, length, replicate, slice_set};
 ghost use Rattle.satl_disk.specs.Layout.{slot_at};
 
+use crate::marks::Marks;
 use satl_base::NoMemory;
 use std::alloc::Global;
 use std::marker::Model;
 
 /// The slot of each sector that has one (profile): slots are taken in order from 0, and no two sectors have one slot. A clause
-/// sees a list of them.
+/// sees a list of them. To take all slots back takes the same time however many there are, as it is with `Marks`.
 #[derive(Drop)]
 pub struct Slots {
-    places: Vec<Option<u32>>,
-    /// How many slots are taken.
+    // The sectors that have a slot.
+    given: Marks,
+    // The slot of each of them; of another sector what it had before.
+    numbers: Vec<u32>,
+    // How many slots are taken.
     used: u32,
 }
 
 impl Model for Slots {
-    ghost use Rattle.std.specs.Prelude.{List, Option, ℕ};
-    ghost use Rattle.satl_disk.specs.Layout.{AreSlots};
+    ghost use Rattle.std.specs.Prelude.{List, Option, ℕ, ◌≡◌, length};
+    ghost use Rattle.satl_base.specs.Lists.{paired};
+    ghost use Rattle.satl_disk.specs.Layout.{AreSlots, slot_given};
 
     ghost Value = { List (Option ℕ) };
 
-    ghost view = { λ s. s.places.items };
+    ghost view = { λ s. paired slot_given s.given s.numbers.items };
 
-    ghost invariant = { λ s. AreSlots s.used s.places.items };
+    ghost invariant = { λ s. (length s.given ≡ length s.numbers.items)
+        × AreSlots s.used (paired slot_given s.given s.numbers.items) };
 }
 
 impl Slots {
@@ -32,7 +38,8 @@ impl Slots {
         ensures { IfOk result (λ slots. slots ≡ replicate number None) }
     {
         Ok(Slots {
-            places: vec![in alloc; None; number as usize]?,
+            given: Marks::none(alloc, number)?,
+            numbers: vec![in alloc; 0; number as usize]?,
             used: 0,
         })
     }
@@ -43,14 +50,11 @@ impl Slots {
         ensures slot { result ≡ slot_at self.now place }
         ensures within { IfSome result (λ slot. slot < length self.now) }
     {
-        self.places[place]
-    }
-
-    /// How many slots are taken.
-    pub fn used(&self) -> u32
-        ensures { result ≡ count_by is_some self.now }
-    {
-        self.used
+        if self.given.has(place) {
+            Some(self.numbers[place])
+        } else {
+            None
+        }
     }
 
     /// The slot of a sector, which takes the next one where it has none.
@@ -60,11 +64,12 @@ impl Slots {
         ensures within { result < length self.old }
         ensures alone { (other : ℕ) → other ≢ place → slot_at self.old other ≢ Some result }
     {
-        if let Some(slot) = self.places[place] {
-            return slot;
+        if self.given.has(place) {
+            return self.numbers[place];
         }
         let slot = self.used;
-        self.places[place] = Some(slot);
+        self.given.mark(place);
+        self.numbers[place] = slot;
         self.used += 1;
         slot
     }
@@ -73,7 +78,7 @@ impl Slots {
     pub fn clear(&mut self)
         ensures { self.new ≡ replicate (length self.old) None }
     {
-        self.places[..].fill(None);
+        self.given.unmark_all();
         self.used = 0;
     }
 }

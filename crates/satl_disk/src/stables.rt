@@ -12,18 +12,16 @@ use satl_base::{Block, NoMemory};
 use std::alloc::Global;
 use std::marker::Model;
 
-/// From how many slots on a flush takes all of them back: half a MB of blocks, which a second-level cache holds.
-const MANY_SLOTS: u32 = 1024;
-
 /// The block of each dirty sector that a loss of power may bring back (profile). A clause sees a list with one, or none, for
 /// each sector. The memory for a block a sector is taken when they are made, and touched as slots are first used.
 #[derive(Drop)]
 pub struct Stables {
     // Apart from the slots, so that a flush is one step.
     dirty: Marks,
-    // A sector has its slot until all are taken back, also while it is clean.
+    // A sector has its slot until the next flush, also while it is clean.
     slots: Slots,
-    // A block for each slot: few of them are used again and again, so that they stay in a cache.
+    // A block for each slot: those that are written between two flushes take the first ones again and again, which stay in a
+    // cache.
     kept: Blocks,
 }
 
@@ -100,8 +98,6 @@ impl Stables {
         ensures { self.new ≡ replicate (length self.old) None }
     {
         self.dirty.unmark_all();
-        if self.slots.used() >= MANY_SLOTS {
-            self.slots.clear();
-        }
+        self.slots.clear();
     }
 }
