@@ -1,19 +1,19 @@
 -- The slots whose tasks are held against one that comes: those that are taken, and what is found in them.
 use Rattle.std.proofs.Common.{◌≡◌, refl, sym, ◌∙◌, ap, subst, ℕ, ◌+◌, ◌*◌, ◌%◌, ◌^◌, ◌<◌, ◌≤◌, Bool, true, false, List, [], ◌∷◌, ◌++◌, map, get_or, arith}
-use Rattle.std.specs.Prelude.{nat_lt, ◌==◌, ◌||◌, ◌&&◌, if◌then◌else◌}
+use Rattle.std.specs.Prelude.{nat_lt, min, max, bit_and, bit_or, bit_xor, ◌==◌, ◌||◌, ◌&&◌, if◌then◌else◌}
 use Rattle.std.specs.List.{AllByRecursion}
 use Rattle.std.specs.Int.{bit_at, bit_not, w64}
 use Rattle.std.proofs.lemmas.Nat.{and_le_l}
-use Rattle.std.proofs.lemmas.Nat.Bits.{bit_at-lt, bit_at-zero, bit_at_clear_same, bit_at_clear_other, bit_at_set_same}
+use Rattle.std.proofs.lemmas.Nat.Bits.{bit_at-lt, bit_at-zero, bit_at_and, bit_at_or, bit_at_xor, bit_at_clear_same, bit_at_clear_other, bit_at_set_same}
 use Rattle.std.proofs.lemmas.Bool.{eqb-true, eqb-false, ltb-true, ltb-false, lt-ltb}
 use Rattle.satl_base.proofs.ListsLemmas.{All-weaken}
 use Rattle.satl_line.specs.declared.entry.Entry.{Entry}
 use Rattle.satl_line.specs.declared.outline.Outline.{Outline}
 use Rattle.satl_line.specs.Blank.{no_entry}
-use Rattle.satl_line.specs.Outlines.{IsOutline, outline_in}
-use Rattle.satl_line.specs.Conflict.{access_of, conflicts}
+use Rattle.satl_line.specs.Outlines.{IsOutline, is_active, is_of_alone, outline_in}
+use Rattle.satl_line.specs.Conflict.{Access, access_of, accesses_conflict, any_meet, conflicts}
 use Rattle.satl_line.specs.Tasks.{Held, count_of, slots_of}
-use Rattle.satl_line.specs.Layout.{IsMask, IsMaskAmong, IsTakenMask, AreNoted, clear_bit, held_in, is_marked, mark_of, tasks_in, with_slot}
+use Rattle.satl_line.specs.Layout.{IsMask, IsMaskAmong, IsTakenMask, AreNoted, IsNoted, clear_bit, held_in, is_marked, mark_of, tasks_in, with_slot}
 use Rattle.satl_line.specs.Regions.{AllHaveTasks, MayLeaveOut}
 use Rattle.satl_line.proofs.OutlinesLemmas.{EachIs}
 use Rattle.satl_line.proofs.MasksLemmas.{bit, with_slot_other}
@@ -67,7 +67,7 @@ taken_none order none = λ q lt. bit_at-zero q ∙ ap (count_of q) (sym none)
 -- ---- the slots that are looked at
 
 -- among the slots that are taken are those whose task writes or stands alone
-pub active_taken : (outlines : List Outline) (order free : List ℕ) (active q : ℕ) → count_of q order + count_of q free ≡ 1 → AreNoted outlines order free active → bit_at active q ≤ count_of q order
+pub active_taken : (outlines : List Outline) (order free : List ℕ) (active q : ℕ) → count_of q order + count_of q free ≡ 1 → AreNoted is_active outlines order free active → bit_at active q ≤ count_of q order
 active_taken outlines order free active q once noted =
     (elim (nat_lt 0 (count_of q free)) as (λ b. nat_lt 0 (count_of q free) ≡ b → bit_at active q ≤ count_of q order) [
       | true ↦ λ e. omega (arith, All-counted (λ q. bit_at active q ≡ 0) q free (ltb-true 0 (count_of q free) e) noted.vacant)
@@ -140,6 +140,58 @@ marked_is slots e q (p ∷ ps) =
     once true r = refl
     once false true = refl
     once false false = refl
+
+-- ---- tasks that stand alone
+
+-- a task that stands alone conflicts with each that comes behind it
+conflicts_behind : (a b : Access) → a.alone ≡ true → accesses_conflict a b ≡ true
+unfolding accesses_conflict
+conflicts_behind a b alone = ap (λ x. x || b.alone || ((a.write || b.write) && any_meet a.ranges b.ranges)) alone
+
+-- and with each that came before it
+conflicts_before : (a b : Access) → b.alone ≡ true → accesses_conflict a b ≡ true
+unfolding accesses_conflict
+conflicts_before a b alone = ap (λ y. a.alone || y || ((a.write || b.write) && any_meet a.ranges b.ranges)) alone ∙ either a.alone ((a.write || b.write) && any_meet a.ranges b.ranges)
+  where
+    either : (x m : Bool) → (x || true || m) ≡ true
+    either true m = refl
+    either false m = refl
+
+-- so the mask of one that stands alone has them all
+pub mask_of_alone : (slots : List Entry) (among : ℕ) (e : Entry) (o : Outline) → IsOutline e o → o.alone ≡ true → IsMaskAmong slots among e among
+mask_of_alone slots among e o own alone = λ q lt.
+    ap (λ c. if c then bit_at among q else 0) (sym (conflicts_before (access_of (held_in slots q).entry) (access_of e) (sym own.alone ∙ alone)))
+
+-- and each other mask those that stand alone, beside what is found in the rest
+pub mask_with_alone : (slots : List Entry) (outlines : List Outline) (order free : List ℕ) (tasks : List Held) (among alone mask : ℕ) (e : Entry) → tasks_in slots order ≡ tasks → AllHaveTasks tasks among → EachIs slots outlines order → AreNoted is_of_alone outlines order free alone →
+    IsMaskAmong slots (bit_xor among (bit_and among alone)) e mask → IsMaskAmong slots among e (bit_or mask (bit_and among alone))
+mask_with_alone slots outlines order free tasks among alone mask e is held each noted found = λ q lt.
+    bit_at_or mask (bit_and among alone) q ∙ ap (λ n. max (bit_at mask q) n) (bit_at_and among alone q)
+    ∙ parts q lt (conflicts (held_in slots q).entry e) refl
+    (found q lt ∙ ap (λ n. if conflicts (held_in slots q).entry e then n else 0) (bit_at_xor among (bit_and among alone) q ∙ ap (λ n. (bit_at among q + n) % 2) (bit_at_and among alone q)))
+  where
+    clash : (q : ℕ) → q < 64 → bit_at among q ≡ 1 → bit_at alone q ≡ 1 → conflicts (held_in slots q).entry e ≡ true
+    clash q lt one also =
+        let some : 0 < count_of q order = omega (arith, held q lt, one, counts_are slots order tasks q is) in
+        let outlined = All-counted (λ q. IsOutline (get_or slots q no_entry) (outline_in outlines q)) q order some each in
+        let own = All-counted (IsNoted is_of_alone outlines alone) q order some noted.held in
+        conflicts_behind (access_of (held_in slots q).entry) (access_of e) (sym outlined.alone ∙ is_one (outline_in outlines q).alone (sym own ∙ also))
+      where
+        is_one : (b : Bool) → ◌≡◌ {A = ℕ} (if b then 1 else 0) 1 → b ≡ true
+        is_one true h = refl
+        is_one false h = absurd (omega (arith, h))
+
+    parts : (q : ℕ) → q < 64 → (c : Bool) → conflicts (held_in slots q).entry e ≡ c → bit_at mask q ≡ (if c then (bit_at among q + min (bit_at among q) (bit_at alone q)) % 2 else 0) →
+        max (bit_at mask q) (min (bit_at among q) (bit_at alone q)) ≡ (if c then bit_at among q else 0)
+    parts q lt true c_is here = omega (arith, here, bit_at-lt among q, bit_at-lt alone q)
+    parts q lt false c_is here =
+        (elim (nat_lt 1 (bit_at among q + bit_at alone q)) as (λ b. nat_lt 1 (bit_at among q + bit_at alone q) ≡ b → max (bit_at mask q) (min (bit_at among q) (bit_at alone q)) ≡ 0) [
+          | true ↦ λ e.
+              let both = ltb-true 1 (bit_at among q + bit_at alone q) e in
+              let never : true ≡ false = sym (clash q lt (omega (arith, both, bit_at-lt among q, bit_at-lt alone q)) (omega (arith, both, bit_at-lt among q, bit_at-lt alone q))) ∙ c_is in
+              cc
+          | false ↦ λ e. omega (arith, here, ltb-false 1 (bit_at among q + bit_at alone q) e)
+        ]) refl
 
 -- the mask of what was found is that of a task that comes
 pub mask_among : (slots : List Entry) (order : List ℕ) (tasks : List Held) (e : Entry) (among mask : ℕ) → tasks_in slots order ≡ tasks → AllHaveTasks tasks among → AllByRecursion (MayLeaveOut e among) tasks → IsMaskAmong slots among e mask → IsMask (map mark_of tasks) (access_of e) mask

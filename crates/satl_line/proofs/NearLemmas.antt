@@ -1,5 +1,5 @@
 -- The tasks near one that comes: which are left out, and what is noted as tasks come and go.
-use Rattle.std.proofs.Common.{◌≡◌, refl, sym, ◌∙◌, ap, subst, ℕ, zero, suc, ◌+◌, ◌<◌, Bool, true, false, List, [], ◌∷◌, ◌++◌, map, length, get_or, set, arith, ◌⊎◌, ⊎_elim, inl, inr}
+use Rattle.std.proofs.Common.{◌≡◌, refl, sym, ◌∙◌, ap, subst, ℕ, ◌+◌, ◌<◌, Bool, true, false, List, [], ◌∷◌, ◌++◌, map, length, get_or, set, arith, ◌⊎◌, ⊎_elim}
 use Rattle.std.specs.Prelude.{not, nat_lt, ◌==◌, ◌||◌, ◌&&◌, if◌then◌else◌}
 use Rattle.std.specs.List.{AllByRecursion, remove}
 use Rattle.std.specs.Int.{bit_at}
@@ -37,12 +37,12 @@ apart_by_outlines a b o p is is' apart =
     never false y = refl
 
 -- the tasks that lie apart from one that comes, and where it neither writes nor stands alone, all others that do neither
-pub are_left_out : (slots : List Entry) (outlines : List Outline) (order free : List ℕ) (taken active : ℕ) (regions : Regions) (e : Entry) (o : Outline) (these : ℕ) → EachIs slots outlines order → AreNoted outlines order free active → AreNear regions outlines order → IsTakenMask order taken → AllByRecursion (λ q. q < 64) order →
+pub are_left_out : (slots : List Entry) (outlines : List Outline) (order free : List ℕ) (taken active : ℕ) (regions : Regions) (e : Entry) (o : Outline) (these : ℕ) → EachIs slots outlines order → AreNoted is_active outlines order free active → AreNear regions outlines order → IsTakenMask order taken → AllByRecursion (λ q. q < 64) order →
     IsOutline e o → HasAllNear regions o taken these ⊎ ((is_active o ≡ false) × HasAllNear regions o active these) → AllByRecursion (MayLeaveOut e these) (tasks_in slots order)
 are_left_out slots outlines order free taken active regions e o these each noted near held small own how =
     all order each noted.held near.each small (all_counted order)
   where
-    here : (q : ℕ) → IsOutline (get_or slots q no_entry) (outline_in outlines q) → IsNoted outlines active q → IsNear regions q (outline_in outlines q) → q < 64 → 0 < count_of q order → MayLeaveOut e these (held_in slots q)
+    here : (q : ℕ) → IsOutline (get_or slots q no_entry) (outline_in outlines q) → IsNoted is_active outlines active q → IsNear regions q (outline_in outlines q) → q < 64 → 0 < count_of q order → MayLeaveOut e these (held_in slots q)
     here q is noted near lt some none = ⊎_elim
         (λ leaves. apart_by_outlines (get_or slots q no_entry) e (outline_in outlines q) o is own (leaves q (outline_in outlines q) lt near (omega (arith, held q lt, some, bit_at-lt taken q)) none))
         (λ part. by_writes part.0 part.1 (is_active (outline_in outlines q)) refl)
@@ -52,7 +52,7 @@ are_left_out slots outlines order free taken active regions e o these each noted
         by_writes quiet leaves true e' = apart_by_outlines (get_or slots q no_entry) e (outline_in outlines q) o is own (leaves q (outline_in outlines q) lt near (noted ∙ ap bit e') none)
         by_writes quiet leaves false e' = apart_where_quiet (get_or slots q no_entry) e (outline_in outlines q) o is own e' quiet
 
-    all : (qs : List ℕ) → EachIs slots outlines qs → AllByRecursion (IsNoted outlines active) qs → AllByRecursion (λ q. IsNear regions q (outline_in outlines q)) qs → AllByRecursion (λ q. q < 64) qs → AllByRecursion (λ q. 0 < count_of q order) qs → AllByRecursion (MayLeaveOut e these) (tasks_in slots qs)
+    all : (qs : List ℕ) → EachIs slots outlines qs → AllByRecursion (IsNoted is_active outlines active) qs → AllByRecursion (λ q. IsNear regions q (outline_in outlines q)) qs → AllByRecursion (λ q. q < 64) qs → AllByRecursion (λ q. 0 < count_of q order) qs → AllByRecursion (MayLeaveOut e these) (tasks_in slots qs)
     all [] are noted near small some = tt
     all (q ∷ qs) are noted near small some = (here q are.0 noted.0 near.0 small.0 some.0, all qs are.1 noted.1 near.1 small.1 some.1)
 

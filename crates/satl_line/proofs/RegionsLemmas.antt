@@ -1,5 +1,5 @@
 -- The slots near blocks, as tasks come and go.
-use Rattle.std.proofs.Common.{◌≡◌, refl, sym, ◌∙◌, ap, subst, ℕ, suc, zero, ◌+◌, ◌-◌, ◌%◌, ◌^◌, ◌<◌, ◌≤◌, Bool, true, false, List, [], ◌∷◌, length, get_or, set, arith, bit_and, bit_or, ◌⊎◌, ⊎_elim, inl, inr}
+use Rattle.std.proofs.Common.{◌≡◌, refl, sym, ◌∙◌, ap, subst, ℕ, suc, zero, ◌+◌, ◌%◌, ◌<◌, ◌≤◌, Bool, true, false, List, [], ◌∷◌, length, get_or, set, arith, bit_and, bit_or, ◌⊎◌, ⊎_elim, inl, inr}
 use Rattle.std.specs.Prelude.{MatchBool, not, nat_lt, ◌==◌, ◌||◌, ◌&&◌, remove}
 use Rattle.std.specs.Int.{bit_at, w64}
 use Rattle.std.specs.List.{AllByRecursion}

@@ -1,5 +1,5 @@
 -- What slots hold as tasks come and go.
-use Rattle.std.proofs.Common.{◌≡◌, refl, sym, ◌∙◌, ap, subst, ℕ, zero, suc, ◌+◌, ◌-◌, ◌*◌, ◌%◌, ◌<◌, ◌≤◌, ◌^◌, Bool, true, false, cond, List, [], ◌∷◌, ◌++◌, Some, map, length, take, drop, get_or, set, arith, append_assoc, add-one, ◌⊎◌, ⊎_elim, inl, inr, bit_or}
+use Rattle.std.proofs.Common.{◌≡◌, refl, sym, ◌∙◌, ap, subst, ℕ, zero, suc, ◌+◌, ◌-◌, ◌*◌, ◌%◌, ◌<◌, ◌≤◌, ◌^◌, Bool, true, false, cond, List, [], ◌∷◌, ◌++◌, Some, map, length, take, drop, get_or, set, arith, append_assoc, ◌⊎◌, ⊎_elim, inl, inr, bit_or}
 use Rattle.std.specs.Prelude.{not, nat_lt, ◌==◌, ◌||◌, ◌&&◌, if◌then◌else◌, slice_get, unwrap_or, replicate}
 use Rattle.std.specs.Option.{option_map}
 use Rattle.std.specs.List.{list_any, AllByRecursion, IsDistinct, remove, position_from}
@@ -156,36 +156,36 @@ eligible_is slots order seen masks tasks k same is taken are fits lt =
     ∙ eligible_from [] tasks masks k tt (subst (λ l. AreSmall (map mark_of l)) is (are_small slots order taken)) (subst (λ l. HaveMasks [] (map mark_of l) masks) is are.full)
     (subst (λ l. get_or masks (get_or l k 0) 0 < 2 ^ 64) seen_is fits) lt
 
--- ---- the slots whose task writes or stands alone
+-- ---- the slots that are noted
 
 -- the bits of the other slots stay as a slot is left
-noted_without : (outlines : List Outline) (front : List ℕ) (s : ℕ) (back free : List ℕ) (active : ℕ) → s < 64 → count_of s front ≡ 0 → count_of s back ≡ 0 → count_of s free ≡ 0 → AllByRecursion (λ q. q < 64) (front ++ s ∷ back) → AllByRecursion (λ q. q < 64) free → AreNoted outlines (front ++ s ∷ back) free active →
-    AreNoted outlines (front ++ back) (free ++ s ∷ []) (clear_bit s active)
-noted_without outlines front s back free active small no_front no_back no_free are_small free_small h = record {
-  held = All-append (IsNoted outlines (clear_bit s active)) front back
-      (others (λ q. bit (is_active (outline_in outlines q))) front no_front (All-left (λ q. q < 64) front (s ∷ back) are_small) (All-left (IsNoted outlines active) front (s ∷ back) h.held))
-      (others (λ q. bit (is_active (outline_in outlines q))) back no_back (All-right (λ q. q < 64) front (s ∷ back) are_small).1 (All-right (IsNoted outlines active) front (s ∷ back) h.held).1);
-  vacant = All-append (λ q. bit_at (clear_bit s active) q ≡ 0) free (s ∷ []) (others (λ q. 0) free no_free free_small h.vacant) (bit_at_clear_same w64 active s small, tt);
+noted_without : (holds : Outline → Bool) (outlines : List Outline) (front : List ℕ) (s : ℕ) (back free : List ℕ) (noted : ℕ) → s < 64 → count_of s front ≡ 0 → count_of s back ≡ 0 → count_of s free ≡ 0 → AllByRecursion (λ q. q < 64) (front ++ s ∷ back) → AllByRecursion (λ q. q < 64) free → AreNoted holds outlines (front ++ s ∷ back) free noted →
+    AreNoted holds outlines (front ++ back) (free ++ s ∷ []) (clear_bit s noted)
+noted_without holds outlines front s back free noted small no_front no_back no_free are_small free_small h = record {
+  held = All-append (IsNoted holds outlines (clear_bit s noted)) front back
+      (others (λ q. bit (holds (outline_in outlines q))) front no_front (All-left (λ q. q < 64) front (s ∷ back) are_small) (All-left (IsNoted holds outlines noted) front (s ∷ back) h.held))
+      (others (λ q. bit (holds (outline_in outlines q))) back no_back (All-right (λ q. q < 64) front (s ∷ back) are_small).1 (All-right (IsNoted holds outlines noted) front (s ∷ back) h.held).1);
+  vacant = All-append (λ q. bit_at (clear_bit s noted) q ≡ 0) free (s ∷ []) (others (λ q. 0) free no_free free_small h.vacant) (bit_at_clear_same w64 noted s small, tt);
 }
   where
-    others : (f : ℕ → ℕ) (qs : List ℕ) → count_of s qs ≡ 0 → AllByRecursion (λ q. q < 64) qs → AllByRecursion (λ q. bit_at active q ≡ f q) qs → AllByRecursion (λ q. bit_at (clear_bit s active) q ≡ f q) qs
+    others : (f : ℕ → ℕ) (qs : List ℕ) → count_of s qs ≡ 0 → AllByRecursion (λ q. q < 64) qs → AllByRecursion (λ q. bit_at noted q ≡ f q) qs → AllByRecursion (λ q. bit_at (clear_bit s noted) q ≡ f q) qs
     others f qs none are_small are =
-        All-other (λ q. (q < 64) × (bit_at active q ≡ f q)) (λ q. bit_at (clear_bit s active) q ≡ f q) s
-        (λ q other is. bit_at_clear_other w64 active s small q is.0 (eqb-false q s other) ∙ is.1)
-        qs none (All-both (λ q. q < 64) (λ q. bit_at active q ≡ f q) qs are_small are)
+        All-other (λ q. (q < 64) × (bit_at noted q ≡ f q)) (λ q. bit_at (clear_bit s noted) q ≡ f q) s
+        (λ q other is. bit_at_clear_other w64 noted s small q is.0 (eqb-false q s other) ∙ is.1)
+        qs none (All-both (λ q. q < 64) (λ q. bit_at noted q ≡ f q) qs are_small are)
 
 -- and as one is taken, whose own bit is told by the new outline
-noted_with : (outlines : List Outline) (order free : List ℕ) (s active : ℕ) (o : Outline) → s < 64 → s < length outlines → count_of s order ≡ 0 → count_of s free ≡ 0 → AreNoted outlines order (free ++ s ∷ []) active →
-    AreNoted (set outlines s o) (order ++ s ∷ []) free (with_slot (is_active o) s active)
-noted_with outlines order free s active o small within no_order no_free h = record {
-  held = All-append (IsNoted (set outlines s o) (with_slot (is_active o) s active)) order (s ∷ [])
-      (All-other (IsNoted outlines active) (IsNoted (set outlines s o) (with_slot (is_active o) s active)) s
-      (λ q other is. with_slot_other (is_active o) s active q small other ∙ is ∙ ap (λ p. bit (is_active p)) (sym (get_or-set_other outlines s q o no_outline (eqb-false q s other))))
+noted_with : (holds : Outline → Bool) (outlines : List Outline) (order free : List ℕ) (s noted : ℕ) (o : Outline) → s < 64 → s < length outlines → count_of s order ≡ 0 → count_of s free ≡ 0 → AreNoted holds outlines order (free ++ s ∷ []) noted →
+    AreNoted holds (set outlines s o) (order ++ s ∷ []) free (with_slot (holds o) s noted)
+noted_with holds outlines order free s noted o small within no_order no_free h = record {
+  held = All-append (IsNoted holds (set outlines s o) (with_slot (holds o) s noted)) order (s ∷ [])
+      (All-other (IsNoted holds outlines noted) (IsNoted holds (set outlines s o) (with_slot (holds o) s noted)) s
+      (λ q other is. with_slot_other (holds o) s noted q small other ∙ is ∙ ap (λ p. bit (holds p)) (sym (get_or-set_other outlines s q o no_outline (eqb-false q s other))))
       order no_order h.held)
-      (with_slot_here (is_active o) s active small (All-right (λ q. bit_at active q ≡ 0) free (s ∷ []) h.vacant).0 ∙ ap (λ p. bit (is_active p)) (sym (get_or-set_same outlines s o no_outline within)), tt);
-  vacant = All-other (λ q. bit_at active q ≡ 0) (λ q. bit_at (with_slot (is_active o) s active) q ≡ 0) s
-      (λ q other is. with_slot_other (is_active o) s active q small other ∙ is)
-      free no_free (All-left (λ q. bit_at active q ≡ 0) free (s ∷ []) h.vacant);
+      (with_slot_here (holds o) s noted small (All-right (λ q. bit_at noted q ≡ 0) free (s ∷ []) h.vacant).0 ∙ ap (λ p. bit (holds p)) (sym (get_or-set_same outlines s o no_outline within)), tt);
+  vacant = All-other (λ q. bit_at noted q ≡ 0) (λ q. bit_at (with_slot (holds o) s noted) q ≡ 0) s
+      (λ q other is. with_slot_other (holds o) s noted q small other ∙ is)
+      free no_free (All-left (λ q. bit_at noted q ≡ 0) free (s ∷ []) h.vacant);
 }
 
 -- ---- a task leaves
@@ -249,7 +249,7 @@ sound_without layout front s back e other h is =
         };
         total = ap total_blocks same ∙ omega (arith, blocks_is);
         few = omega (arith, h.few);
-        noted = noted_without layout.outlines front s back layout.free layout.active at out.0 out.1 (omega (arith, h.once s at, count-append s front (s ∷ back), count_of-first s back)) h.taken h.small h.noted;
+        noted = noted_without is_active layout.outlines front s back layout.free layout.active at out.0 out.1 (omega (arith, h.once s at, count-append s front (s ∷ back), count_of-first s back)) h.taken h.small h.noted;
         counted = counted.0;
       },
       same,
@@ -324,7 +324,7 @@ sound_with layout free s mask e o own h fits is =
         };
         total = ap total_blocks tasks ∙ omega (arith, total-append (tasks_in layout.slots layout.order) (record { slot = s; entry = e } ∷ []), h.total);
         few = fits;
-        noted = noted_with layout.outlines layout.order free s layout.active o small (omega (arith, h.outlined.room)) none (omega (arith, h.once s small, count-append s free (s ∷ []), count_one s)) h.noted;
+        noted = noted_with is_active layout.outlines layout.order free s layout.active o small (omega (arith, h.outlined.room)) none (omega (arith, h.once s small, count-append s free (s ∷ []), count_one s)) h.noted;
         counted = subst (λ l. CountLowBytes l (one_more layout.tag_counts e.tag)) (sym tasks) (counted_more (tasks_in layout.slots layout.order) (record { slot = s; entry = e }) layout.tag_counts h.counted);
       },
       tasks,
@@ -416,6 +416,36 @@ comes_from layout freed s active' mask e read put o old order' tag_counts' own s
 pub counts_few : (layout : SetInMemory) (tag : Tag) → FitTogether layout → get_or layout.tag_counts (low_byte tag) 0 ≤ 64
 counts_few layout tag h = omega (arith, counted_few (tasks_in layout.slots layout.order) layout.tag_counts tag h.counted, length-map layout.order (held_in layout.slots), h.count)
 
+-- what is noted of tasks is so too once a task has come
+pub noted_comes : (holds : Outline → Bool) (layout : SetInMemory) (freed order' : List ℕ) (s noted noted' : ℕ) (o : Outline) → FitTogether layout → layout.free ≡ freed ++ s ∷ [] → order' ≡ layout.order ++ s ∷ [] → noted' ≡ with_slot (holds o) s noted → AreNoted holds layout.outlines layout.order layout.free noted →
+    AreNoted holds (set layout.outlines s o) order' freed noted'
+noted_comes holds layout freed order' s noted noted' o sound free_is order_is noted_is h =
+    let small : s < 64 = (All-right (λ q. q < 64) freed (s ∷ []) (subst (AllByRecursion (λ q. q < 64)) free_is sound.small)).0 in
+    let one : count_of s layout.order + (count_of s freed + 1) ≡ 1 = omega (arith, sound.once s small, ap (count_of s) free_is, count-append s freed (s ∷ []), count_one s) in
+    subst (λ l. AreNoted holds (set layout.outlines s o) l freed noted') (sym order_is)
+    (subst (AreNoted holds (set layout.outlines s o) (layout.order ++ s ∷ []) freed) (sym noted_is)
+    (noted_with holds layout.outlines layout.order freed s noted o small (omega (arith, small, sound.outlined.room)) (omega (arith, one)) (omega (arith, one)) (subst (λ l. AreNoted holds layout.outlines layout.order l noted) free_is h)))
+
+-- and once one has left
+pub noted_leaves : (holds : Outline → Bool) (layout : SetInMemory) (place s : ℕ) (order' free' : List ℕ) (noted : ℕ) → FitTogether layout → place < length layout.order → s ≡ get_or layout.order place s → order' ≡ remove layout.order place → free' ≡ layout.free ++ s ∷ [] → AreNoted holds layout.outlines layout.order layout.free noted →
+    AreNoted holds layout.outlines order' free' (clear_bit s noted)
+noted_leaves holds layout place s order' free' noted sound within at order_is free_is h =
+    let small : s < 64 = subst (λ q. q < 64) (sym at) (All-at (λ q. q < 64) layout.order place s within sound.taken) in
+    let front = take place layout.order in
+    let back = drop (suc place) layout.order in
+    let parts : layout.order ≡ front ++ s ∷ back = parted layout.order place s within ∙ ap (λ q. front ++ q ∷ back) (sym at) in
+    let parted_sound = subst (λ l. FitTogether (record layout { order = l })) parts sound in
+    let out = alone layout front s back parted_sound small in
+    subst (λ l. AreNoted holds layout.outlines l free' (clear_bit s noted)) (sym order_is)
+    (subst (λ l. AreNoted holds layout.outlines (remove layout.order place) l (clear_bit s noted)) (sym free_is)
+    (noted_without holds layout.outlines front s back layout.free noted small out.0 out.1 (omega (arith, parted_sound.once s small, count-append s front (s ∷ back), count_of-first s back)) parted_sound.taken sound.small
+    (subst (λ l. AreNoted holds layout.outlines l layout.free noted) parts h)))
+
+-- of no task nothing is noted
+pub noted_none : (holds : Outline → Bool) (outlines : List Outline) (order free : List ℕ) → order ≡ [] → AllByRecursion (λ q. q < 64) free → AreNoted holds outlines order free 0
+noted_none holds outlines order free none small =
+    subst (λ l. AreNoted holds outlines l free 0) (sym none) (record { held = tt; vacant = All-weaken (λ q. q < 64) (λ q. bit_at 0 q ≡ 0) (λ q lt. bit_at-zero q) free small })
+
 -- a number that stands at each place of a list
 pub get_or-replicate_same : (n q : ℕ) → ◌≡◌ {A = ℕ} (get_or {A = ℕ} (replicate {A = ℕ} n 0) q 0) 0
 get_or-replicate_same zero q = refl
@@ -437,7 +467,7 @@ sound_new slots outlines free masks order tag_counts wide room none zeros nothin
       outlined = record { room = wide; each = tt };
       total = refl;
       few = omega arith;
-      noted = record { held = tt; vacant = All-weaken (λ q. q < 64) (λ q. bit_at 0 q ≡ 0) (λ q lt. bit_at-zero q) free small };
+      noted = noted_none is_active outlines [] free refl small;
       counted = record { wide = ap length nothing ∙ length-replicate {A = ℕ} 256 0; each = λ low lt. ap (λ l. get_or l low 0) nothing ∙ get_or-replicate_same 256 low };
     })
 

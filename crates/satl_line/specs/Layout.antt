@@ -70,14 +70,14 @@ is_unbarred_at masks order place = nat_lt place (length order) && (slice_index_o
 abbrev pub with_slot : Bool → ℕ → ℕ → ℕ
 with_slot noted slot number = if noted then bit_or number (1 * 2 ^ slot % 2 ^ 64) else number
 
--- the bit of a slot says whether its task writes or stands alone
-abbrev pub IsNoted : List Outline → ℕ → ℕ → Type 0
-IsNoted outlines active slot = bit_at active slot ≡ (if is_active (outline_in outlines slot) then 1 else 0)
+-- the bit of a slot says whether this holds of the outline of its task
+abbrev pub IsNoted : (Outline → Bool) → List Outline → ℕ → ℕ → Type 0
+IsNoted holds outlines noted slot = bit_at noted slot ≡ (if holds (outline_in outlines slot) then 1 else 0)
 
 -- the bits of the slots that are taken say so of their tasks, and those of the free slots are 0
-pub record AreNoted (outlines : List Outline) (order free : List ℕ) (active : ℕ) : Type 0 where
-  pub held : AllByRecursion (IsNoted outlines active) order
-  pub vacant : AllByRecursion (λ slot. bit_at active slot ≡ 0) free
+pub record AreNoted (holds : Outline → Bool) (outlines : List Outline) (order free : List ℕ) (noted : ℕ) : Type 0 where
+  pub held : AllByRecursion (IsNoted holds outlines noted) order
+  pub vacant : AllByRecursion (λ slot. bit_at noted slot ≡ 0) free
 
 -- the bit of a slot is 1 where a task lies in it, and else 0
 abbrev pub IsTakenMask : List ℕ → ℕ → Type 0
@@ -143,5 +143,5 @@ pub record FitTogether (layout : SetInMemory) : Type 0 where
   pub outlined : AreOutlines layout.slots layout.outlines layout.order
   pub total : total_blocks (tasks_in layout.slots layout.order) ≡ layout.blocks
   pub few : layout.blocks ≤ most_held
-  pub noted : AreNoted layout.outlines layout.order layout.free layout.active
+  pub noted : AreNoted is_active layout.outlines layout.order layout.free layout.active
   pub counted : CountLowBytes (tasks_in layout.slots layout.order) layout.tag_counts

@@ -44,6 +44,10 @@ no_outline = record {
   span = record { first = 2 ^ 64 - 1; last = 0 };
 }
 
+-- whether it is the outline of a task that stands alone
+abbrev pub is_of_alone : Outline → Bool
+is_of_alone outline = outline.alone
+
 -- whether it is the outline of a task that writes or stands alone: two tasks of which neither does so do not conflict
 abbrev pub is_active : Outline → Bool
 is_active outline = outline.alone || outline.write

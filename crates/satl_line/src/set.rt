@@ -46,9 +46,10 @@ pub struct TaskSet {
     free: ArrayVec<u8, MOST_TASKS>,
     masks: [u64; MOST_TASKS],
     blocks: u32,
-    // The slots with a task, and those whose task writes or stands alone, as the bits of numbers.
+    // The slots with a task, those whose task writes or stands alone, and those whose task stands alone, as the bits of numbers.
     taken: u64,
     active: u64,
+    alone: u64,
     // The slots whose task waits for an earlier one, as the bits of a number: those with a mask that is not 0.
     barred: u64,
     // For each low byte of a tag the number of tasks that have it: mostly 0 for the tag of a task that comes.
@@ -62,7 +63,8 @@ pub struct TaskSet {
 impl Model for TaskSet {
     ghost use Rattle.std.specs.Prelude.{List};
     ghost use Rattle.satl_line.specs.Tasks.{Held};
-    ghost use Rattle.satl_line.specs.Layout.{AreBarred, FitTogether, HasPassed, IsTakenMask, tasks_in};
+    ghost use Rattle.satl_line.specs.Layout.{AreBarred, AreNoted, FitTogether, HasPassed, IsTakenMask, tasks_in};
+    ghost use Rattle.satl_line.specs.Outlines.{is_of_alone};
     ghost use Rattle.satl_line.specs.Regions.{AreNear};
 
     ghost Value = { List Held };
@@ -79,7 +81,8 @@ impl Model for TaskSet {
       active = s.active;
       tag_counts = s.tag_counts;
     }) × HasPassed s.order s.passed × AreNear s.regions s.outlines s.order
-        × IsTakenMask s.order s.taken × AreBarred s.masks s.barred };
+        × IsTakenMask s.order s.taken × AreBarred s.masks s.barred
+        × AreNoted is_of_alone s.outlines s.order s.free.items s.alone };
 }
 
 impl TaskSet {
@@ -104,6 +107,7 @@ impl TaskSet {
             blocks: 0,
             taken: 0,
             active: 0,
+            alone: 0,
             barred: 0,
             tag_counts: no_counts(),
             passed: Passed::none(),
@@ -152,6 +156,7 @@ impl TaskSet {
         self.masks[slot as usize] = mask;
         self.taken |= 1 << slot;
         self.active = with_slot(self.active, slot, outline.is_active());
+        self.alone = with_slot(self.alone, slot, outline.is_alone());
         self.barred = with_slot(self.barred, slot, mask != 0);
         self.regions.note(slot, &outline);
         self.outlines[slot as usize] = outline;
@@ -176,6 +181,7 @@ impl TaskSet {
         self.regions.forget(slot, &outline);
         self.taken &= !(1 << slot);
         self.active &= !(1 << slot);
+        self.alone &= !(1 << slot);
         self.passed = self.passed.without(place, slot);
         self.free.push(slot);
         let entry = task.entry();
@@ -304,12 +310,18 @@ impl TaskSet {
 
     /// The slots of the tasks that conflict with a new one, as the bits of a number. Where none may, as among READs alone, no
     /// task and no outline is looked at.
+    // A task that stands alone conflicts with each: it is not held against any.
     fn mask_for(&self, entry: &Entry, outline: &Outline) -> u64
         requires { IsOutline entry.now outline.now }
         ensures { IsMask (map mark_of self.now) (access_of entry.now) result }
     {
         let among = self.candidates(entry, outline);
-        mask_against(&self.slots, &self.outlines, among, entry, outline)
+        let alone = among & self.alone;
+        if outline.is_alone() {
+            return among;
+        }
+        let others = among ^ alone;
+        mask_against(&self.slots, &self.outlines, others, entry, outline) | alone
     }
 
     /// The slots whose tasks may conflict with a new one, as the bits of a number: these are near it, and write or stand alone

@@ -1,8 +1,9 @@
 use Rattle.std.proofs.Common.{ap, arith, length}
+use Rattle.satl_line.specs.Outlines.{is_of_alone}
 use Rattle.satl_line.proofs.AmongLemmas.{taken_none}
 use Rattle.satl_line.proofs.BarredLemmas.{barred_none}
 use Rattle.satl_line.proofs.NearLemmas.{near_none}
-use Rattle.satl_line.proofs.SlotsLemmas.{free_more, sound_new}
+use Rattle.satl_line.proofs.SlotsLemmas.{free_more, noted_none, sound_new}
 use Rattle.satl_line.proofs.set.TaskSet.new.Goals as goal
 
 pub loop-slot-preserved : goal.loop-slot-preserved
@@ -21,4 +22,5 @@ invariant_of-result c = (
   near_none c.none-2.result c.no_outlines.result c.new-2.result c.none-2.ensures c.new-2.ensures,
   taken_none c.new-2.result c.new-2.ensures,
   barred_none c.no_masks.result c.no_masks.ensures,
+  noted_none is_of_alone c.no_outlines.result c.new-2.result c.loop-slot.free.items c.new-2.ensures c.loop-slot.invariant.up_to.small,
 )

@@ -1,10 +1,11 @@
 use Rattle.std.proofs.Common.{refl, ◌∙◌, ap, arith, length}
 use Rattle.std.proofs.lemmas.List.{length-map}
 use Rattle.satl_line.specs.Layout.{held_in, one_fewer}
+use Rattle.satl_line.specs.Outlines.{is_of_alone}
 use Rattle.satl_line.proofs.PassedLemmas.{without_slot}
 use Rattle.satl_line.proofs.AmongLemmas.{taken_without}
 use Rattle.satl_line.proofs.NearLemmas.{near_without, only_near_wait, slot_gone}
-use Rattle.satl_line.proofs.SlotsLemmas.{leaves}
+use Rattle.satl_line.proofs.SlotsLemmas.{leaves, noted_leaves}
 use Rattle.satl_line.proofs.set.TaskSet.remove.Goals as goal
 
 pub clear_slot-self-inside-requires-clause-others : goal.clear_slot-self-inside-requires-clause-others
@@ -37,6 +38,8 @@ invariant_of-self c =
       taken_without c.self.inside.order c.self.inside.free.items c.remove-slot.new.self c.push.new.self.items c.remove-slot.result c.self.inside.taken
           left.sound.small c.push.ensures.items c.self.invariant.0.once left.sound.once c.self.invariant.3,
       c.clear_slot-self-inside.ensures.barred,
+      noted_leaves is_of_alone _ c.args.place c.remove-slot.result c.remove-slot.new.self c.push.new.self.items c.self.inside.alone c.self.invariant.0 (omega (arith, length-map c.self.inside.order (held_in c.self.inside.slots.items), ap length c.self.view_is, c.requires))
+          c.remove-slot.ensures.value c.remove-slot.ensures.others c.push.ensures.items c.self.invariant.5,
     )
 
 pub returns-clause-value : goal.returns-clause-value
