@@ -8,7 +8,7 @@ use Rattle.satl_disk.proofs.sectors.Sectors.flaw_in.Goals as goal
 pub returns-then-not-self : goal.returns-then-not-self
 returns-then-not-self c =
     let i = c.self.inside in
-    none_is i.blocks i.stables i.flaws.items c.args.self.now c.self.view_is c.self.invariant c.if-not-self.true c.args.which c.args.lba c.args.count
+    none_is i.blocks i.stables i.flaws.items c.self.view_is c.self.invariant c.if-not-self.true c.args.which c.args.lba c.args.count
 
 pub loop-i-preserved : goal.loop-i-preserved
 loop-i-preserved c = set_more (map (has_flaw c.args.which) (cells_of c.args.self.now)) c.args.lba c.args.count c.loop-i.i _ (omega arith) (sym c.has_flaw.ensures ∙ c.if-has_flaw.false) c.loop-i.invariant

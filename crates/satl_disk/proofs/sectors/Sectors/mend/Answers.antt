@@ -8,7 +8,7 @@ use Rattle.satl_disk.proofs.sectors.Sectors.mend.Goals as goal
 pub returns-then-lba-len-clause-value : goal.returns-then-lba-len-clause-value
 returns-then-lba-len-clause-value c =
     let i = c.self.inside in
-    mended_is i.blocks i.stables i.flaws.items c.args.self.now c.self.view_is c.self.invariant c.args.lba (omega (arith, i.flaws.ok.0)) c.mend.new.self c.mend.ensures
+    mended_is i.blocks i.stables i.flaws.items c.self.view_is c.self.invariant c.args.lba (omega (arith, i.flaws.ok.0)) c.mend.ensures
 
 pub returns-then-lba-len-clause-size : goal.returns-then-lba-len-clause-size
 returns-then-lba-len-clause-size c = ap length (returns-then-lba-len-clause-value c) ∙ change_at-length c.args.self.now c.args.lba mended_sector
@@ -16,4 +16,4 @@ returns-then-lba-len-clause-size c = ap length (returns-then-lba-len-clause-valu
 pub returns-else-lba-len-clause-value : goal.returns-else-lba-len-clause-value
 returns-else-lba-len-clause-value c =
     let i = c.self.inside in
-    changed_none mended_sector c.args.self.now c.args.lba (omega (arith, i.flaws.ok.0, size_is i.blocks i.stables i.flaws.items c.args.self.now c.self.view_is c.self.invariant))
+    changed_none mended_sector c.args.self.now c.args.lba (omega (arith, i.flaws.ok.0, size_is i.blocks i.stables i.flaws.items c.self.view_is c.self.invariant))

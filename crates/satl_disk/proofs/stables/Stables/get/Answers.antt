@@ -8,24 +8,24 @@ use Rattle.satl_disk.proofs.stables.Stables.get.Goals as goal
 pub has-requires : goal.has-requires
 has-requires c =
     let i = c.self.inside in
-    omega (arith, dirties_are i.kept i.dirty i.slots c.args.self.now c.self.view_is c.self.invariant.0, c.requires)
+    omega (arith, dirties_are i.kept i.dirty i.slots c.self.view_is c.self.invariant, c.requires)
 
 pub returns-then-not-has : goal.returns-then-not-has
 returns-then-not-has c =
     let i = c.self.inside in
-    clean_none i.kept i.dirty i.slots c.args.self.now c.self.view_is c.self.invariant.0 c.args.place (omega (arith, stables_are i.kept i.dirty i.slots c.args.self.now c.self.view_is c.self.invariant.0, c.requires)) c.has.result c.has.ensures c.if-not-has.true
+    clean_none i.kept i.dirty i.slots c.self.view_is c.self.invariant c.args.place c.requires c.has.ensures c.if-not-has.true
 
 pub get-requires : goal.get-requires
 get-requires c =
     let i = c.self.inside in
-    omega (arith, stables_are i.kept i.dirty i.slots c.args.self.now c.self.view_is c.self.invariant.0, c.requires)
+    omega (arith, stables_are i.kept i.dirty i.slots c.self.view_is c.self.invariant, c.requires)
 
 pub returns-in_err-slot : goal.returns-in_err-slot
 returns-in_err-slot c =
     let i = c.self.inside in
     ap option_copied c.from_residual.ensures
     ∙ ap (option_map (block_at i.kept)) c.in_err-slot.ensures.slot
-    ∙ dirty_some i.kept i.dirty i.slots c.args.self.now c.self.view_is c.self.invariant.0 c.args.place (omega (arith, stables_are i.kept i.dirty i.slots c.args.self.now c.self.view_is c.self.invariant.0, c.requires)) c.has.result c.has.ensures c.if-not-has.false
+    ∙ dirty_some i.kept i.dirty i.slots c.self.view_is c.self.invariant c.args.place c.requires c.has.ensures c.if-not-has.false
 
 pub at-requires : goal.at-requires
 at-requires c =
@@ -37,4 +37,4 @@ returns c =
     let i = c.self.inside in
     ap Some c.at.ensures
     ∙ ap (option_map (block_at i.kept)) c.in_ok-slot.ensures.slot
-    ∙ dirty_some i.kept i.dirty i.slots c.args.self.now c.self.view_is c.self.invariant.0 c.args.place (omega (arith, stables_are i.kept i.dirty i.slots c.args.self.now c.self.view_is c.self.invariant.0, c.requires)) c.has.result c.has.ensures c.if-not-has.false
+    ∙ dirty_some i.kept i.dirty i.slots c.self.view_is c.self.invariant c.args.place c.requires c.has.ensures c.if-not-has.false
