@@ -4,7 +4,7 @@ ghost use Rattle.satl_io.specs.Causes.{HasCause};
 ghost use Rattle.satl_frame.specs.declared.frames.Frame.{Frame};
 ghost use Rattle.satl_base.specs.Limits.{IsExpectable};
 ghost use Rattle.satl_pages.specs.Counts.{number_of};
-ghost use Rattle.satl_step.specs.Runs.{calls_allowed};
+ghost use Rattle.satl_step.specs.Runs.{calls_of};
 ghost use Rattle.satl_fleet.specs.Rounds.{CallsNoneAt, DidAt, DidAtInPart, stage};
 ghost use Rattle.satl_fleet.specs.Serving.{CanServe, KeepsUnits, calls_due, target};
 ghost use Rattle.satl_fleet.specs.Shared.{frame_of};
@@ -40,7 +40,7 @@ pub fn serve_at<K: Sink, D: Bench<L>, L: Ledger>(
     ensures ready { OnOk result (CanServe (target D.state units.new drives.new) replies.new) }
     ensures keeps { KeepsUnits (target D.state units.old drives.old) (target D.state units.new drives.new) }
     ensures calls { calls_due (target D.state units.new drives.new) steps.new
-        ≤ calls_due (target D.state units.old drives.old) steps.old + calls_allowed (frame_of event.now ∷ []) }
+        ≤ calls_due (target D.state units.old drives.old) steps.old + calls_of (frame_of event.now) }
     ensures uncalled { CallsNoneAt k (frame_of event.now) (target D.state units.old drives.old).units → steps.new ≡ steps.old }
     ensures cause { HasCause (K.faults sink.old) (K.faults sink.new) result }
 {
@@ -75,7 +75,7 @@ pub fn serve_request_at<K: Sink, D: Bench<L>, L: Ledger>(
     ensures ready { OnOk result (CanServe (target D.state units.new drives.new) replies.new) }
     ensures keeps { KeepsUnits (target D.state units.old drives.old) (target D.state units.new drives.new) }
     ensures calls { calls_due (target D.state units.new drives.new) steps.new
-        ≤ calls_due (target D.state units.old drives.old) steps.old + calls_allowed (Frame.Request request ∷ []) }
+        ≤ calls_due (target D.state units.old drives.old) steps.old + calls_of (Frame.Request request) }
     ensures uncalled { CallsNoneAt k (Frame.Request request) (target D.state units.old drives.old).units → steps.new ≡ steps.old }
     ensures all_in { OnOk result (pool.new.out ≡ 0) }
     ensures number { number_of pool.new ≡ number_of pool.old }

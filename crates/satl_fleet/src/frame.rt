@@ -4,7 +4,7 @@ ghost use Rattle.satl_io.specs.Causes.{HasCause};
 ghost use Rattle.satl_frame.specs.declared.frames.Frame.{Frame};
 ghost use Rattle.satl_frame.specs.Pulls.{frame_pages};
 ghost use Rattle.satl_pages.specs.Counts.{number_of};
-ghost use Rattle.satl_step.specs.Runs.{calls_allowed};
+ghost use Rattle.satl_step.specs.Runs.{calls_of};
 ghost use Rattle.satl_fleet.specs.Rounds.{AllDid, AllDidInPart, CallsNoneAt, CanRoute, IsTurnOrBench, NoneCalls};
 ghost use Rattle.satl_fleet.specs.Rounds.{RoundDone, RoundInPart, frame_calls, stage};
 ghost use Rattle.satl_fleet.specs.Serving.{CanServe, KeepsUnits, calls_due, target};
@@ -42,7 +42,7 @@ fn serve_all<K: Sink, D: Bench<L>, L: Ledger>(
     ensures keeps { KeepsUnits (target D.state units.old drives.old) (target D.state units.new drives.new) }
     ensures calls { calls_due (target D.state units.new drives.new) steps.new
         ≤ calls_due (target D.state units.old drives.old) steps.old
-        + vec_len units.old * calls_allowed (frame_of event.now ∷ []) }
+        + vec_len units.old * calls_of (frame_of event.now) }
     ensures uncalled { ((k : ℕ) → CallsNoneAt k (frame_of event.now) (target D.state units.old drives.old).units)
         → steps.new ≡ steps.old }
     ensures cause { HasCause (K.faults sink.old) (K.faults sink.new) result }

@@ -7,7 +7,7 @@ ghost use Rattle.satl_core.specs.Layer.{view};
 ghost use Rattle.satl_core.specs.Submitting.{CanSubmit};
 ghost use Rattle.satl_core.specs.Turning.{turn_calls};
 ghost use Rattle.satl_step.specs.Events.{CallsNone, IsWholeOf};
-ghost use Rattle.satl_step.specs.Runs.{calls_allowed};
+ghost use Rattle.satl_step.specs.Runs.{calls_of};
 ghost use Rattle.satl_step.specs.Serving.{CanServeEvent};
 ghost use Rattle.satl_pages.specs.Counts.{number_of};
 ghost use Rattle.satl_fleet.specs.Units.{IsTiedUnit, UnitDid, UnitDidInPart, unit_state};
@@ -68,7 +68,7 @@ pub fn serve_unit<K: Sink, D: Bench<L>, L: Ledger>(
         (unit_state satl.old (D.state drive.old)) (unit_state satl.new (D.state drive.new))
         (K.written sink.old) (K.written sink.new)) }
     ensures calls { steps.new + turn_calls * length satl.new.tasks
-        ≤ steps.old + turn_calls * length satl.old.tasks + calls_allowed (event.entry ∷ []) }
+        ≤ steps.old + turn_calls * length satl.old.tasks + calls_of event.entry }
     ensures uncalled { CallsNone event.entry (view satl.old (D.state drive.old)) → steps.new ≡ steps.old }
     ensures cause { HasCause (K.faults sink.old) (K.faults sink.new) result }
 {

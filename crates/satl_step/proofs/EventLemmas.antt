@@ -30,7 +30,8 @@ use Rattle.satl_step.specs.Telling.{IsTold, IsToldInPart, Telling}
 use Rattle.satl_step.specs.Events.{Carried, Done, DoneInPart, IsTallied, Scene, SomeTurnsTold, TurnsTold}
 use Rattle.satl_step.specs.Runs.{IsDeep, Stand}
 use Rattle.satl_step.specs.Serving.{WholeOrInPart}
-use Rattle.satl_step.proofs.TallyLemmas.{end_tallied, turns_lost, turns_on, turns_start}
+use Rattle.satl_step.proofs.LostLemmas.{turns_lost}
+use Rattle.satl_step.proofs.TallyLemmas.{end_tallied, turns_on, turns_start}
 use Rattle.satl_step.proofs.TellingLemmas.{part_before, part_one, told_more, told_none, told_one, told_part}
 
 pub map-append : (xs ys : List Reply) → map replied (xs ++ ys) ≡ map replied xs ++ map replied ys

@@ -1,5 +1,6 @@
 pub mod EventLemmas
 pub mod LoopLemmas
+pub mod LostLemmas
 pub mod RunLemmas
 pub mod ServingLemmas
 pub mod TallyLemmas

@@ -1,5 +1,5 @@
 -- A run that grows by one event.
-use Rattle.std.proofs.Common.{◌≡◌, ◌⊎◌, ◌∙◌, refl, sym, ap, subst, arith, ℕ, ◌+◌, ◌≤◌, max, inl, inr, Bool, true, false, List, [], ◌∷◌, ◌++◌, length}
+use Rattle.std.proofs.Common.{◌≡◌, ◌⊎◌, ◌∙◌, refl, sym, ap, subst, arith, ℕ, ◌+◌, ◌*◌, ◌≤◌, max, inl, inr, Bool, true, false, List, [], ◌∷◌, ◌++◌, length}
 use Rattle.std.specs.Prelude.{if◌then◌else◌}
 use Rattle.satl_base.specs.declared.bench.BenchEvent.TheVariants as events
 use Rattle.satl_base.specs.Lists.{how_many}
@@ -12,11 +12,13 @@ use Rattle.satl_frame.specs.Output.{Answer}
 use Rattle.satl_frame.specs.Pulls.{cut_to}
 use Rattle.satl_drive.specs.State.{Orders}
 use Rattle.satl_direct.specs.Device.{Device}
-use Rattle.satl_direct.specs.Run.{CutTurns, DoesInPart, DoesShort, losses_in}
+use Rattle.satl_direct.specs.Run.{CutTurns, Does, DoesInPart, DoesShort, losses_in}
 use Rattle.satl_direct.specs.Run.RunDeep.{start, next_event}
 use Rattle.satl_direct.proofs.Quieting.{quiet_none}
+use Rattle.satl_core.specs.Turning.{turn_calls}
 use Rattle.satl_step.specs.Events.{Carried, IsTallied, IsWholeOf, unplugs_behind}
-use Rattle.satl_step.specs.Runs.{AreCounted, KeepsDeepest, RunCutSoFar, RunSoFar, Stand, is_manage, is_request, is_unplug, orders_behind, orders_behind_all}
+use Rattle.satl_step.specs.Runs.{AreCounted, KeepsDeepest, RunCutSoFar, RunSoFar, Stand, calls_allowed, calls_left, calls_of, is_lost_behind, is_lost_behind_all, is_unplug, orders_behind, orders_behind_all}
+use Rattle.satl_step.proofs.LostLemmas.{lost_push, run_lost}
 use Rattle.satl_direct.specs.Run.DoesInPart.{does_all, does_some}
 use Rattle.satl_direct.specs.Run.RunInPart.{one_event_more}
 
@@ -78,9 +80,47 @@ covers_same a = record { rises = omega arith; covers = λ deep. deep }
 pub covers_more : (a b c : Stand) → KeepsDeepest a.tally b.tally → KeepsDeepest b.tally c.tally → KeepsDeepest a.tally c.tally
 covers_more a b c p q = record { rises = omega (arith, p.rises, q.rises); covers = λ deep. q.covers (p.covers deep) }
 
+-- events allow the calls of one more
+allowed_push : (events : List Frame) (event : Frame) (lost : Bool) → calls_allowed (events ++ event ∷ []) lost ≡ calls_allowed events lost + (if is_lost_behind_all events lost then 0 else calls_of event)
+allowed_push [] event lost = omega arith
+allowed_push (e ∷ events) event lost = omega (arith, allowed_push events event (is_lost_behind e lost))
+
+-- no call is left where no task is
+none_left : (lost : Bool) (s : Device) → s.tasks ≡ [] → calls_left lost s ≡ 0
+none_left true s idle = refl
+none_left false s idle = ap (λ l. turn_calls * length l) idle
+
+-- POWER leaves no task
+powered_idle : (s new : Device) (answers : List Answer) (deep : ℕ) → Does (frames.Bench events.Power) s answers new deep → new.tasks ≡ []
+powered_idle s new answers deep d = ap (λ (x : Device). x.tasks) d.2.quiet_after.stays ∙ ap (λ (x : Device). x.tasks) d.2.step.stays
+
+-- no task is left behind POWER, which nothing can cut short
+no_task_left : (event : Frame) (a b : Stand) (given : List Answer) → DoesInPart event a.device given b.device → event ≡ frames.Bench events.Power → b.device.tasks ≡ []
+no_task_left event a b given (does_all deep does) is = powered_idle a.device b.device given deep (subst (λ e. Does e a.device given b.device deep) is does)
+no_task_left event a b given (does_some short) is = absurd (subst (λ e. CutTurns e short.count) is short.asked)
+
+-- an event calls a drive whose link is lost at no time, and leaves no call to be taken where it is known to be lost
+unasked : (event : Frame) (a b : Stand) → a.device.down ≡ true → IsTallied event a b → b.tally.calls ≡ a.tally.calls
+unasked (frames.Bench what) a b down x = x.uncalled tt
+unasked _ a b down x = x.uncalled down
+
+left_none : (event : Frame) (s : Device) → (event ≡ frames.Bench events.Power → s.tasks ≡ []) → calls_left (is_lost_behind event true) s ≡ 0
+left_none (frames.Bench events.Power) s idle = none_left false s (idle refl)
+left_none _ s idle = refl
+
+few_left : (event : Frame) (s : Device) → calls_left (is_lost_behind event false) s ≤ turn_calls * length s.tasks
+few_left (frames.Bench events.Unplug) s = omega arith
+few_left _ s = omega arith
+
+-- the calls of one more event, where the link is lost if it is known to be
+calls_more : (lost : Bool) (event : Frame) (a b : Stand) (limit : ℕ) → (lost ≡ true → a.device.down ≡ true) → (event ≡ frames.Bench events.Power → b.device.tasks ≡ []) → IsTallied event a b → a.tally.calls + calls_left lost a.device ≤ limit →
+    b.tally.calls + calls_left (is_lost_behind event lost) b.device ≤ limit + (if lost then 0 else calls_of event)
+calls_more false event a b limit known idle x few = omega (arith, few, x.calls, few_left event b.device)
+calls_more true event a b limit known idle x few = omega (arith, few, unasked event a b (known refl) x, left_none event b.device idle)
+
 -- events and one more are counted
-counted_more : (events : List Frame) (losses : ℕ) (before a b : Stand) (event whole : Frame) → AreCounted events losses before a → IsWholeOf event whole → IsTallied event a b → AreCounted (events ++ whole ∷ []) (losses + losses_in whole a.device b.device) before b
-counted_more events losses before a b event whole counted is tallied =
+counted_more : (events : List Frame) (losses : ℕ) (before a b : Stand) (event whole : Frame) (given : List Answer) → (is_lost_behind_all events before.device.down ≡ true → a.device.down ≡ true) → AreCounted events losses before a → IsWholeOf event whole → DoesInPart whole a.device given b.device → IsTallied event a b → AreCounted (events ++ whole ∷ []) (losses + losses_in whole a.device b.device) before b
+counted_more events losses before a b event whole given known counted is does tallied =
     let x = tallied_whole is.room a b event whole is.cut tallied in
     let u = counts_more is_unplug events whole before.tally.unplugs a.tally.unplugs b.tally.unplugs (record { rose = counted.unplugged; few = counted.few_unplugs }) (subst (Counts is_unplug (whole ∷ []) a.tally.unplugs) (sym x.unplugs) (unplugs_one whole a.tally.unplugs)) in
     record {
@@ -88,7 +128,10 @@ counted_more events losses before a b event whole counted is tallied =
       unplugged = u.rose;
       few_unplugs = u.few;
       orders = orders_more events whole before.tally.orders a.tally.orders b.tally.orders counted.orders x.orders;
-      few_calls = omega (arith, counted.few_calls, x.calls, how_many-push is_request events whole, how_many-push is_manage events whole);
+      few_calls =
+          let one = calls_more (is_lost_behind_all events before.device.down) whole a b _ known (no_task_left whole a b given does) x counted.few_calls in
+          let left = ap (λ c. calls_left c b.device) (lost_push events whole before.device.down) in
+          omega (arith, one, left, allowed_push events whole before.device.down);
       queue = covers_more before a b counted.queue x.queue;
     }
 
@@ -105,7 +148,7 @@ run_start a idle = record {
     unplugged = RoseBy-none a.tally.unplugs;
     few_unplugs = omega arith;
     orders = refl;
-    few_calls = let none = ap length idle in omega (arith, none);
+    few_calls = omega (arith, none_left a.device.down a.device idle);
     queue = covers_same a;
   };
   covered = λ deep. omega arith;
@@ -118,7 +161,7 @@ run_more before a b events groups event whole given r is carried tallied = recor
   deep = max r.deep carried.deep;
   run = next_event whole given carried.deep r.run (carried.does whole is);
   covered = λ deep. omega (arith, r.covered deep, tallied.queue.rises, carried.covered (r.counted.queue.covers deep));
-  counted = counted_more events r.losses before a b event whole r.counted is tallied;
+  counted = counted_more events r.losses before a b event whole given (run_lost before.device a.device events groups r.losses r.deep r.run) r.counted is (does_all carried.deep (carried.does whole is)) tallied;
 }
 
 short_whole : (room : ℕ) (event whole : Frame) (s new : Device) (given : List Answer) → event ≡ cut_to room whole → DoesShort event s given new → DoesShort whole s given new
@@ -133,5 +176,5 @@ pub run_cut : (before a b : Stand) (events : List Frame) (groups : List (List An
 run_cut before a b events groups event whole given r is done tallied = record {
   losses = r.losses + losses_in whole a.device b.device;
   run = one_event_more whole given r.run (in_part event whole a b given is done);
-  counted = counted_more events r.losses before a b event whole r.counted is tallied;
+  counted = counted_more events r.losses before a b event whole given (run_lost before.device a.device events groups r.losses r.deep r.run) r.counted is (in_part event whole a b given is done) tallied;
 }

@@ -1,19 +1,10 @@
 -- What one event counts.
-use Rattle.std.proofs.Common.{◌≡◌, refl, sym, ap, subst, ◌∙◌, arith, ℕ, ◌+◌, ◌*◌, ◌≤◌, true, List, [], ◌∷◌, length}
-use Rattle.std.proofs.lemmas.Bool.{MatchBool-at_true}
-use Rattle.satl_base.specs.declared.reply.Reply.{Reply}
+use Rattle.std.proofs.Common.{◌≡◌, refl, sym, ap, subst, ◌∙◌, arith, ℕ, ◌+◌, ◌*◌, ◌≤◌, true, length}
 use Rattle.satl_io.specs.Causes.{RoseBy}
 use Rattle.satl_frame.specs.declared.frames.Frame.{Frame}
 use Rattle.satl_frame.specs.declared.frames.Frame.TheVariants as frames
 use Rattle.satl_drive.specs.State.{DriveState}
-use Rattle.satl_direct.specs.Device.{Device}
-use Rattle.satl_direct.specs.Ending.{IsChecked}
-use Rattle.satl_direct.specs.Quiet.{Quiet}
-use Rattle.satl_direct.specs.Run.{TurnsOf, depth, losses_in}
-use Rattle.satl_direct.specs.Run.TurnsOf.{none, more}
-use Rattle.satl_direct.specs.Senses.{link_lost}
-use Rattle.satl_direct.specs.Turn.{OneEnds, Turn}
-use Rattle.satl_direct.specs.Turn.Turn.{idle, ends, loses, ends_and_loses}
+use Rattle.satl_direct.specs.Run.{depth, losses_in}
 use Rattle.satl_direct.specs.Valid.{IsValid}
 use Rattle.satl_flight.specs.Flown.{IsInFlight}
 use Rattle.satl_flight.specs.Settled.{Deepens}
@@ -22,7 +13,7 @@ use Rattle.satl_core.specs.Turning.{turn_calls}
 use Rattle.satl_core.proofs.AgreeingLemmas.{agrees_by}
 use Rattle.satl_core.proofs.CountedLemmas.{counted_more, counted_same, tasks_seen}
 use Rattle.satl_step.specs.Events.{CallsNone, IsTallied, unplugs_behind}
-use Rattle.satl_step.specs.Runs.{Stand, calls_allowed, orders_behind, stand_of}
+use Rattle.satl_step.specs.Runs.{Stand, calls_of, orders_behind, stand_of}
 use Rattle.satl_step.proofs.RunLemmas.{covers_more, covers_same}
 
 -- ---- the layer and free pages
@@ -49,31 +40,11 @@ stays_on a b c n m p q =
     q ∙ (ap (λ (s : Layer). record s { free = n; out = m }) p
     ∙ (ap (λ x. record a { free = x; out = m }) (sym (ap (λ (l : Layer). l.free) q)) ∙ ap (λ x. record a { free = c.free; out = x }) (sym (ap (λ (l : Layer). l.out) q))))
 
--- ---- a lost link
-
-one_lost : (s new : Device) (reply : Reply) → OneEnds s reply new → s.down ≡ true → new.down ≡ true
-one_lost s new reply e lost = ap (λ (x : Device). x.down) (MatchBool-at_true (IsChecked link_lost s e.task reply new) _ lost e.ends).stays ∙ lost
-
-turn_lost : (s : Device) (replies : List Reply) (new : Device) → Turn s replies new → s.down ≡ true → new.down ≡ true
-turn_lost s _ _ (idle e) lost = lost
-turn_lost s _ new (ends reply e) lost = one_lost s new reply e lost
-turn_lost s _ new (loses some l) lost = ap (λ (x : Device). x.down) l.stays
-turn_lost s _ new (ends_and_loses reply e q l) lost = ap (λ (x : Device). x.down) l.stays
-
-quiet_lost : (s new : Device) → Quiet s new → s.down ≡ true → new.down ≡ true
-quiet_lost s new q lost = ap (λ (x : Device). x.down) q.stays ∙ lost
-
--- turns leave it lost
-pub turns_lost : (n : ℕ) (s : Device) (replies : List Reply) (new : Device) (deep : ℕ) → TurnsOf n s replies new deep → s.down ≡ true → new.down ≡ true
-turns_lost _ s _ _ _ none lost = lost
-turns_lost _ s _ new _ (more {n = n} {deep = deep} {mid = mid} {earlier = earlier} {rest = rest} first last) lost =
-    quiet_lost last.after new last.quiet_after (turn_lost last.before rest last.after last.step (quiet_lost mid last.before last.quiet_before (turns_lost n s earlier mid deep first lost)))
-
 -- ---- tallies
 
 -- what an event counts, once its replies were told
 pub tallied : (event : Frame) (l mid l' : Layer) (d d' : DriveState) (calls calls' : ℕ) → l' ≡ record mid { free = l'.free; out = l'.out } → RoseBy (losses_in event (view l d) (view mid d')) d.faults d'.faults → d'.unplugs ≡ unplugs_behind event d.unplugs → d'.orders ≡ orders_behind event d.orders →
-    calls' + turn_calls * length mid.tasks ≤ calls + turn_calls * length l.tasks + calls_allowed (event ∷ []) → (CallsNone event (view l d) → calls' ≡ calls) → Deepens d d' → IsTallied event (stand_of l d calls) (stand_of l' d' calls')
+    calls' + turn_calls * length mid.tasks ≤ calls + turn_calls * length l.tasks + calls_of event → (CallsNone event (view l d) → calls' ≡ calls) → Deepens d d' → IsTallied event (stand_of l d calls) (stand_of l' d' calls')
 tallied event l mid l' d d' calls calls' stays faults unplugs orders few unasked deep =
     let tasks = ap (λ (x : Layer). length x.tasks) stays in
     record {

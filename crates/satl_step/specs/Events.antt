@@ -1,5 +1,5 @@
 -- One event on one unit: what it does, how its answers are told, and what is counted (profile).
-use Rattle.std.specs.Prelude.{◌≡◌, ◌⊎◌, ℕ, ◌+◌, ◌*◌, ◌≤◌, true, List, [], ◌∷◌, length, map, Option}
+use Rattle.std.specs.Prelude.{◌≡◌, ◌⊎◌, ℕ, ◌+◌, ◌*◌, ◌≤◌, true, List, length, map, Option}
 use Rattle.satl_base.specs.declared.reply.Reply.{Reply}
 use Rattle.satl_io.specs.Causes.{RoseBy}
 use Rattle.satl_frame.specs.declared.frames.Frame.{Frame}
@@ -14,7 +14,7 @@ use Rattle.satl_core.specs.Benching.{unplugs_after}
 use Rattle.satl_core.specs.Layer.{Layer}
 use Rattle.satl_core.specs.Submitting.{CanSubmit}
 use Rattle.satl_core.specs.Turning.{turn_calls}
-use Rattle.satl_step.specs.Runs.{IsDeep, KeepsDeepest, Stand, calls_allowed, orders_behind, stand_of}
+use Rattle.satl_step.specs.Runs.{IsDeep, KeepsDeepest, Stand, calls_of, orders_behind, stand_of}
 use Rattle.satl_step.specs.Telling.{IsTold, IsToldInPart, Telling}
 
 -- where a run stands, and who tells its answers (profile)
@@ -63,7 +63,7 @@ pub record IsTallied (event : Frame) (before after : Stand) : Type 0 where
   pub unplugs : after.tally.unplugs ≡ unplugs_behind event before.tally.unplugs
   pub orders : after.tally.orders ≡ orders_behind event before.tally.orders
   pub calls : after.tally.calls + turn_calls * length after.device.tasks
-      ≤ before.tally.calls + turn_calls * length before.device.tasks + calls_allowed (event ∷ [])
+      ≤ before.tally.calls + turn_calls * length before.device.tasks + calls_of event
   pub uncalled : CallsNone event before.device → after.tally.calls ≡ before.tally.calls
   pub queue : KeepsDeepest before.tally after.tally
 

@@ -1,5 +1,5 @@
 -- Runs as far as they came, and what was counted meanwhile (profile).
-use Rattle.std.specs.Prelude.{ℕ, ◌+◌, ◌*◌, ◌≡◌, ◌≤◌, Bool, true, false, List, [], ◌∷◌, length}
+use Rattle.std.specs.Prelude.{ℕ, ◌+◌, ◌*◌, ◌≡◌, ◌≤◌, Bool, true, false, if◌then◌else◌, List, [], ◌∷◌, length}
 use Rattle.satl_base.specs.declared.bench.BenchEvent.{BenchEvent}
 use Rattle.satl_base.specs.declared.bench.BenchEvent.TheVariants as events
 use Rattle.satl_base.specs.Lists.{how_many}
@@ -63,15 +63,32 @@ is_request _ = false
 abbrev pub requests_in : List Frame → ℕ
 requests_in events = how_many is_request events
 
--- whether an event is a task management function (profile)
-abbrev pub is_manage : Frame → Bool
-is_manage (frames.Manage m) = true
-is_manage _ = false
+-- the most calls of a drive that an event takes: a request those of its turn, and those of taking tasks off where it overlaps
+-- one; a task management function those of taking tasks off (profile)
+abbrev pub calls_of : Frame → ℕ
+calls_of (frames.Request r) = turn_calls + off_calls
+calls_of (frames.Manage m) = off_calls
+calls_of _ = 0
 
--- the most calls of a drive that events take: a request those of its turn, and those of taking tasks off where it overlaps one;
--- a task management function those of taking tasks off (profile)
-abbrev pub calls_allowed : List Frame → ℕ
-calls_allowed events = (turn_calls + off_calls) * requests_in events + off_calls * how_many is_manage events
+-- whether the link is known to be lost behind an event: UNPLUG loses it, and POWER alone brings it back (profile)
+abbrev pub is_lost_behind : Frame → Bool → Bool
+is_lost_behind (frames.Bench events.Unplug) before = true
+is_lost_behind (frames.Bench events.Power) before = false
+is_lost_behind _ before = before
+
+-- the same behind events (profile)
+abbrev pub is_lost_behind_all : List Frame → Bool → Bool
+is_lost_behind_all [] before = before
+is_lost_behind_all (event ∷ events) before = is_lost_behind_all events (is_lost_behind event before)
+
+-- the most calls of a drive that events take: none between an UNPLUG and the next POWER (profile)
+abbrev pub calls_allowed : List Frame → Bool → ℕ
+calls_allowed [] lost = 0
+calls_allowed (event ∷ events) lost = (if lost then 0 else calls_of event) + calls_allowed events (is_lost_behind event lost)
+
+-- the most calls that the turns of the tasks take that are left: none where the link is known to be lost (profile)
+abbrev pub calls_left : Bool → Device → ℕ
+calls_left lost s = if lost then 0 else turn_calls * length s.tasks
 
 -- whether a bench event unplugs the drive (profile)
 abbrev pub unplugs : BenchEvent → Bool
@@ -100,13 +117,14 @@ orders_behind_all (event ∷ events) before = orders_behind_all events (orders_b
 -- events with so many losses were counted: the drive's count of faults rose by the losses at least, or stands at its last
 -- value; its number of unplugs rose by the events that unplug it, or stands at its last value; its account of order bytes has
 -- those of the events behind, each event's as one piece, and no others; and it was called as often at most as the events allow,
--- but for the turns of the tasks that are left; its deepest queue did not fall (profile)
+-- none of them while it was unplugged, but for the turns of the tasks that are left; its deepest queue did not fall (profile)
 pub record AreCounted (events : List Frame) (losses : ℕ) (before after : Stand) : Type 0 where
   pub faults : RoseBy losses before.tally.faults after.tally.faults
   pub unplugged : RoseBy (unplugs_in events) before.tally.unplugs after.tally.unplugs
   pub few_unplugs : after.tally.unplugs ≤ before.tally.unplugs + unplugs_in events
   pub orders : after.tally.orders ≡ orders_behind_all events before.tally.orders
-  pub few_calls : after.tally.calls + turn_calls * length after.device.tasks ≤ before.tally.calls + calls_allowed events
+  pub few_calls : after.tally.calls + calls_left (is_lost_behind_all events before.device.down) after.device
+      ≤ before.tally.calls + calls_allowed events before.device.down
   pub queue : KeepsDeepest before.tally after.tally
 
 -- events were carried out one after the other, and were counted: a group of answers for each (profile)

@@ -2,7 +2,7 @@ use Rattle.std.proofs.Common.{arith, ap, length, vec_len}
 use Rattle.satl_frame.specs.declared.frames.Frame.TheVariants as frames
 use Rattle.satl_core.specs.Layer.{Layer}
 use Rattle.satl_core.specs.Turning.{turn_calls}
-use Rattle.satl_step.specs.Runs.{calls_allowed}
+use Rattle.satl_step.specs.Runs.{calls_of}
 use Rattle.std.specs.Prelude.{[], ◌∷◌}
 use Rattle.std.proofs.lemmas.Result.{on_ok_weaker, on_err_weaker}
 use Rattle.satl_base.proofs.OutcomeLemmas.{on_both}
@@ -38,7 +38,7 @@ returns-clause-keeps g c = keeps_there g.D.Drive.state c.args.units.now.items c.
 pub returns-clause-calls : goal.returns-clause-calls
 returns-clause-calls g c =
     let tasks = ap (λ (x : Layer). length x.tasks) c.lend-lent.ensures.rest in
-    calls_there g.D.Drive.state c.args.units.now.items c.args.drives.now.items c.args.k c.index_mut-satl.result.now c.index_mut-drive.result.now (omega (arith, c.requires.within, c.args.units.now.ok.0)) (omega (arith, c.requires.within, c.requires.serve.has.same, c.args.drives.now.ok.0)) c.index_mut-satl.ensures.value c.index_mut-drive.ensures.value c.serve_unit.new.satl c.serve_unit.new.drive turn_calls c.args.steps.now c.serve_unit.new.steps (calls_allowed (frames.Request c.args.request ∷ [])) (omega (arith, c.serve_unit.ensures.calls, tasks))
+    calls_there g.D.Drive.state c.args.units.now.items c.args.drives.now.items c.args.k c.index_mut-satl.result.now c.index_mut-drive.result.now (omega (arith, c.requires.within, c.args.units.now.ok.0)) (omega (arith, c.requires.within, c.requires.serve.has.same, c.args.drives.now.ok.0)) c.index_mut-satl.ensures.value c.index_mut-drive.ensures.value c.serve_unit.new.satl c.serve_unit.new.drive turn_calls c.args.steps.now c.serve_unit.new.steps (calls_of (frames.Request c.args.request)) (omega (arith, c.serve_unit.ensures.calls, tasks))
 
 pub returns-clause-uncalled : goal.returns-clause-uncalled
 returns-clause-uncalled g c = λ none. c.serve_unit.ensures.uncalled (none_here g.D.Drive.state c.args.units.now.items c.args.drives.now.items c.args.k c.index_mut-satl.result.now c.index_mut-drive.result.now (omega (arith, c.requires.within, c.args.units.now.ok.0)) (omega (arith, c.requires.within, c.requires.serve.has.same, c.args.drives.now.ok.0)) c.index_mut-satl.ensures.value c.index_mut-drive.ensures.value (frames.Request c.args.request) none)

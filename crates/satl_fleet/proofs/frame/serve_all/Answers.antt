@@ -1,6 +1,6 @@
 use Rattle.std.proofs.Common.{arith, refl, ◌∙◌, ◌∷◌, [], map}
 use Rattle.std.proofs.Common.{add-mul}
-use Rattle.satl_step.specs.Runs.{calls_allowed}
+use Rattle.satl_step.specs.Runs.{calls_of}
 use Rattle.satl_base.proofs.OutcomeLemmas.{any_err}
 use Rattle.satl_fleet.specs.Rounds.{stage}
 use Rattle.satl_fleet.specs.Serving.{target}
@@ -24,7 +24,7 @@ loop-k-init g c = record {
 
 pub loop-k-preserved : goal.loop-k-preserved
 loop-k-preserved g c =
-    let product = add-mul c.loop-k.k 1 (calls_allowed (frame_of c.args.event.now ∷ [])) in
+    let product = add-mul c.loop-k.k 1 (calls_of (frame_of c.args.event.now)) in
     record {
       units = c.serve_at.ensures.keeps.layers ∙ c.loop-k.invariant.units;
       drives = c.serve_at.ensures.keeps.drives ∙ c.loop-k.invariant.drives;
