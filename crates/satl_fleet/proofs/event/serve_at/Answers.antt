@@ -3,7 +3,6 @@ use Rattle.satl_core.specs.Layer.{view}
 use Rattle.satl_core.specs.Turning.{turn_calls}
 use Rattle.satl_step.specs.Events.{CallsNone}
 use Rattle.satl_step.specs.Runs.{calls_of}
-use Rattle.std.specs.Prelude.{[], ◌∷◌}
 use Rattle.std.proofs.lemmas.Result.{on_ok_weaker, on_err_weaker}
 use Rattle.satl_base.proofs.OutcomeLemmas.{on_both}
 use Rattle.satl_fleet.proofs.EventLemmas.{calls_there, did_at, did_at_in_part, none_here, ready_here, serves_there, keeps_there}

@@ -3,7 +3,6 @@ use Rattle.satl_frame.specs.declared.frames.Frame.TheVariants as frames
 use Rattle.satl_core.specs.Layer.{Layer}
 use Rattle.satl_core.specs.Turning.{turn_calls}
 use Rattle.satl_step.specs.Runs.{calls_of}
-use Rattle.std.specs.Prelude.{[], ◌∷◌}
 use Rattle.std.proofs.lemmas.Result.{on_ok_weaker, on_err_weaker}
 use Rattle.satl_base.proofs.OutcomeLemmas.{on_both}
 use Rattle.satl_step.proofs.TallyLemmas.{tied_lent}

@@ -1,4 +1,4 @@
-use Rattle.std.proofs.Common.{arith, refl, ◌∙◌, ◌∷◌, [], map}
+use Rattle.std.proofs.Common.{arith, refl, ◌∙◌, map}
 use Rattle.std.proofs.Common.{add-mul}
 use Rattle.satl_step.specs.Runs.{calls_of}
 use Rattle.satl_base.proofs.OutcomeLemmas.{any_err}

@@ -1,4 +1,4 @@
-use Rattle.std.proofs.Common.{◌≡◌, ℕ, ◌≤◌, ◌+◌, ◌*◌, ◌∷◌, [], vec_len}
+use Rattle.std.proofs.Common.{◌≡◌, ℕ, ◌≤◌, ◌+◌, ◌*◌, vec_len}
 use Rattle.satl_step.specs.Runs.{calls_of}
 use Rattle.satl_fleet.specs.Rounds.{CallsNoneAt, stage}
 use Rattle.satl_fleet.specs.Serving.{CanServe, calls_due, target}
