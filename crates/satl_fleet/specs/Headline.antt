@@ -24,7 +24,7 @@ use Rattle.satl_serve.specs.declared.telling.Form.TheVariants.{Frames}
 use Rattle.satl_serve.specs.declared.serving.ServeFault.{ServeFault}
 use Rattle.satl_serve.specs.declared.serving.ServeFault.TheVariants as faults
 
--- the drives were called once each for their identity, and then as often at most as these frames allow (profile)
+-- the drives were called as often at most as there are drives, for their identities, and as these frames allow (profile)
 abbrev pub HasFewCalls : List Frame → FleetMoment → FleetMoment → Type 0
 HasFewCalls frames before after = after.calls ≤ before.calls + length before.drives + calls_for (length before.drives) frames
 
@@ -119,7 +119,7 @@ abbrev pub IsFleetInPart : ℕ → FleetMoment → FleetMoment → Type 0
 IsFleetInPart limit before after =
     BrokeInMagic before after ⊎ (BrokeInRound limit before after ⊎ BrokeInFault limit before after)
 
--- nothing was read or written; each drive was at most asked for its IDENTIFY DEVICE data (profile)
+-- nothing was read or written, and the drives were called as often at most as there are drives (profile)
 pub record IsFleetNotServed (before after : FleetMoment) : Type 0 where
   pub read : after.source.left ≡ before.source.left
   pub wrote : after.sink.written ≡ before.sink.written

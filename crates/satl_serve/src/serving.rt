@@ -75,7 +75,8 @@ impl From<OpenFault> for ServeFault {
 /// bytes. `Read` and `Write` come only where the source's or the sink's count of faults rose. An input that can be read to END
 /// ends so, or by want of memory or a lost link before anything is read, where neither the source's nor the sink's count of
 /// faults rises and the drive is not refused. It gives the totals of the whole input. The drive is called at most once for its
-/// identity, 1,089 times for each request and 33 times for each task management function (profile).
+/// identity, 1,089 times for each request and 33 times for each task management function, in sum; those between an UNPLUG and the
+/// next POWER add none (profile).
 pub fn serve<S: Source, K: Sink, D: Bench<L>, L: Ledger>(
     alloc: Global,
     form: Form,

@@ -1,6 +1,7 @@
 -- A lost link stays lost until POWER.
-use Rattle.std.proofs.Common.{◌≡◌, refl, sym, ap, ◌∙◌, ℕ, Bool, true, List, [], ◌∷◌, ◌++◌}
+use Rattle.std.proofs.Common.{◌≡◌, ◌≢◌, refl, sym, ap, ◌∙◌, arith, ℕ, Bool, true, false, List, [], ◌∷◌, ◌++◌}
 use Rattle.std.proofs.lemmas.Bool.{MatchBool-at_true}
+use Rattle.std.specs.List.{AllByRecursion}
 use Rattle.satl_base.specs.declared.bench.BenchEvent.{BenchEvent}
 use Rattle.satl_base.specs.declared.bench.BenchEvent.TheVariants as events
 use Rattle.satl_base.specs.declared.reply.Reply.{Reply}
@@ -21,7 +22,8 @@ use Rattle.satl_direct.specs.Run.TurnsOf.{none, more}
 use Rattle.satl_direct.specs.Senses.{link_lost}
 use Rattle.satl_direct.specs.Turn.{OneEnds, Turn}
 use Rattle.satl_direct.specs.Turn.Turn.{idle, ends, loses, ends_and_loses}
-use Rattle.satl_step.specs.Runs.{is_lost_behind, is_lost_behind_all}
+use Rattle.satl_step.specs.Laws.{AllowsNoneUnplugged}
+use Rattle.satl_step.specs.Runs.{calls_allowed, is_lost_behind, is_lost_behind_all}
 
 -- ---- steps
 
@@ -93,3 +95,20 @@ pub run_lost : (first s : Device) (events : List Frame) (groups : List (List Ans
 run_lost first s _ _ _ _ (start q) is = quiet_lost first s q is
 run_lost first new _ _ _ _ (next_event {events = events} {groups = groups} {losses = losses} {deep = deep} {s = s} event now deep_now earlier does) is =
     does_lost event s new now deep_now (is_lost_behind_all events first.down) (run_lost first s events groups losses deep earlier) (sym (lost_push events event first.down) ∙ is) does
+
+-- ---- what is allowed
+
+stays_lost : (event : Frame) → event ≢ frames.Bench events.Power → is_lost_behind event true ≡ true
+stays_lost (frames.Bench events.Power) other = absurd (other refl)
+stays_lost _ other = refl
+
+lost_allows_none : (behind : List Frame) → AllByRecursion (λ event. event ≢ frames.Bench events.Power) behind → calls_allowed behind true ≡ 0
+lost_allows_none [] others = refl
+lost_allows_none (event ∷ behind) others = let later = ap (calls_allowed behind) (stays_lost event others.0) in omega (arith, later, lost_allows_none behind others.1)
+
+pub unplugged_allows_none : AllowsNoneUnplugged
+unplugged_allows_none = λ behind lost others. by lost behind others
+  where
+    by : (lost : Bool) (behind : List Frame) → AllByRecursion (λ event. event ≢ frames.Bench events.Power) behind → calls_allowed (frames.Bench events.Unplug ∷ behind) lost ≡ 0
+    by true behind others = omega (arith, lost_allows_none behind others)
+    by false behind others = omega (arith, lost_allows_none behind others)

@@ -1,4 +1,5 @@
 pub mod Events
+pub mod Laws
 pub mod Loop
 pub mod Runs
 pub mod Serving

@@ -81,7 +81,7 @@ abbrev pub is_lost_behind_all : List Frame → Bool → Bool
 is_lost_behind_all [] before = before
 is_lost_behind_all (event ∷ events) before = is_lost_behind_all events (is_lost_behind event before)
 
--- the most calls of a drive that events take: none between an UNPLUG and the next POWER (profile)
+-- the most calls of a drive that events take in sum: those between an UNPLUG and the next POWER add none (profile)
 abbrev pub calls_allowed : List Frame → Bool → ℕ
 calls_allowed [] lost = 0
 calls_allowed (event ∷ events) lost = (if lost then 0 else calls_of event) + calls_allowed events (is_lost_behind event lost)
@@ -116,8 +116,8 @@ orders_behind_all (event ∷ events) before = orders_behind_all events (orders_b
 
 -- events with so many losses were counted: the drive's count of faults rose by the losses at least, or stands at its last
 -- value; its number of unplugs rose by the events that unplug it, or stands at its last value; its account of order bytes has
--- those of the events behind, each event's as one piece, and no others; and it was called as often at most as the events allow,
--- none of them while it was unplugged, but for the turns of the tasks that are left; its deepest queue did not fall (profile)
+-- those of the events behind, each event's as one piece, and no others; its calls, and those that the turns of the tasks that
+-- are left may take, are as many at most as the events allow in sum; its deepest queue did not fall (profile)
 pub record AreCounted (events : List Frame) (losses : ℕ) (before after : Stand) : Type 0 where
   pub faults : RoseBy losses before.tally.faults after.tally.faults
   pub unplugged : RoseBy (unplugs_in events) before.tally.unplugs after.tally.unplugs

@@ -84,7 +84,7 @@ fn serve_bench<T: Teller, K: Sink, D: Bench<L>, L: Ledger>(
     tell_replies(satl, teller, sink, replies)
 }
 
-/// Carries out one event on one unit, and tells the answers of each frame before it returns. `WriteFault` comes only where the
+/// Carries out one event on one unit, and tells its answers before it returns. `WriteFault` comes only where the
 /// sink's count of faults rose; then a front of the answers was told, of which there is one at least, and the event was carried
 /// out in whole, or was cut short behind one of its turns (profile).
 pub fn serve_event<T: Teller, K: Sink, D: Bench<L>, L: Ledger>(

@@ -4,6 +4,7 @@
 
 mod events;
 mod frames_loop;
+pub mod laws;
 mod queue;
 mod replies;
 mod teller;

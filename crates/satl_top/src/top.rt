@@ -28,7 +28,8 @@ use std::sync::ledger::Ledger;
 /// of USB Bulk-Only Transport; `audit` judges a record and says so in a line; `gen` serves a generated input and writes its
 /// totals, and reads nothing. Plain words mean what they spell, and all others what clap makes of them. The drive has nothing
 /// outstanding and is in no error state, and its IDENTIFY DEVICE data fit it. The status says how that ended. The drive is
-/// called at most once for its identity, 1,089 times for each request and 33 times for each task management function.
+/// called at most once for its identity, 1,089 times for each request and 33 times for each task management function, in sum;
+/// those between an UNPLUG and the next POWER add none.
 pub fn satl<S: Source, K: Sink, D: Bench<L>, L: Ledger>(
     alloc: Global,
     words: &[RcStr],
