@@ -16,9 +16,8 @@ use std::marker::Model;
 /// each sector. The memory for a block a sector is taken when they are made, and touched as slots are first used.
 #[derive(Drop)]
 pub struct Stables {
-    // Apart from the slots, so that a flush is one step.
+    // Apart from the slots: a sector that gets clean by itself keeps its slot until the next flush.
     dirty: Marks,
-    // A sector has its slot until the next flush, also while it is clean.
     slots: Slots,
     // A block for each slot: those that are written between two flushes take the first ones again and again, which stay in a
     // cache.

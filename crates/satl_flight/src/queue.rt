@@ -22,8 +22,8 @@ use std::alloc::Global;
 use std::marker::Model;
 use std::sync::ledger::Ledger;
 
-/// How many pages lie beside the slots: as many as a READ of 4 KiB fills.
-const RECENT_PAGES: u32 = 8;
+/// How many pages lie beside the slots: as many as a READ of 128 KiB fills.
+const RECENT_PAGES: u32 = 256;
 
 /// The task set, what is outstanding of it, and the slots of the tags. Clauses see each task with its pages, wherever these
 /// lie (ACS-3, native command queuing; profile).

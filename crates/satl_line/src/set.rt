@@ -54,7 +54,8 @@ pub struct TaskSet {
     barred: u64,
     // For each low byte of a tag the number of tasks that have it: mostly 0 for the tag of a task that comes.
     tag_counts: [u8; 256],
-    // The places before the first that was found outside some slots: mostly those of the outstanding tasks.
+    // The places before the first that was found outside some slots: mostly those of tasks that are outstanding or wait for an
+    // earlier one.
     passed: Passed,
     // The slots whose tasks may conflict with one that comes: mostly none of many.
     regions: Regions,
@@ -326,7 +327,7 @@ impl TaskSet {
 
     /// The slots whose tasks may conflict with a new one, as the bits of a number: these are near it, and write or stand alone
     /// where it does neither.
-    // Regions may have slots without a task.
+    // No clause says that regions have no slot without a task, so these are left out here.
     fn candidates(&self, entry: &Entry, outline: &Outline) -> u64
         requires { IsOutline entry.now outline.now }
         ensures taken { AllHaveTasks self.now result }

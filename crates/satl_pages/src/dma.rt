@@ -4,6 +4,7 @@ ghost use Rattle.std.specs.Option.{option_copied};
 ghost use Rattle.satl_base.specs.declared.block.Block.{Block};
 ghost use Rattle.satl_pages.specs.Slots.{pages_at};
 
+use crate::stock::fit;
 use arrayvec::ArrayVec;
 use satl_base::{Pages, QUEUE_DEPTH};
 use std::marker::Model;
@@ -14,17 +15,21 @@ use std::mem;
 #[derive(Drop)]
 pub struct Dma {
     slots: ArrayVec<Option<Pages>, QUEUE_DEPTH>,
-    // Pages beside those in the slots, which were in use not long ago.
+    // Pages beside those in the slots, which were in use not long ago, as many as were asked for last.
     recent: Pages,
+    // More of them, which were too many for who asked.
+    spare: Pages,
 }
 
 impl Model for Dma {
-    ghost use Rattle.std.specs.Prelude.{List, Option};
+    ghost use Rattle.std.specs.Prelude.{List, Option, ◌+◌, ◌<◌, ◌^◌, length};
     ghost use Rattle.satl_base.specs.declared.pages.Pages.{Pages};
 
     ghost Value = { List (Option Pages) };
 
     ghost view = { λ d. d.slots.items };
+
+    ghost invariant = { λ d. length d.recent + length d.spare < 2 ^ 32 };
 }
 
 impl Default for Dma {
@@ -55,10 +60,14 @@ impl Dma {
         for _ in 0..32u32 {
             slots.push(None);
         }
-        Dma { slots, recent }
+        Dma {
+            slots,
+            recent,
+            spare: Pages::default(),
+        }
     }
 
-    /// Gives as many pages as it takes, with whatever they hold: those beside the slots where these are as many, and keeps the
+    /// Gives as many pages as it takes, with whatever they hold: those beside the slots where these suffice, and keeps the
     /// ones that it takes in their place (profile).
     // It serves speed alone: a READ is filled into pages of an earlier reply, which a cache still has, and not into those that
     // its task has had since it came.
@@ -67,7 +76,10 @@ impl Dma {
         ensures same { self.new ≡ self.old }
     {
         if pages.blocks() != self.recent.blocks() {
-            return pages;
+            if pages.blocks() == 0 || self.recent.blocks() + self.spare.blocks() < pages.blocks() {
+                return pages;
+            }
+            fit(&mut self.recent, pages.blocks(), &mut self.spare);
         }
         mem::replace(&mut self.recent, pages)
     }
@@ -142,6 +154,22 @@ mod tests {
         assert_eq!(rt; other.blocks(), 2);
         assert_eq!(rt; other.block(1).bytes[0], 7);
         assert_eq!(rt; dma.exchange(other).block(1).bytes[0], 0);
+        Ok(())
+    }
+
+    #[test]
+    fn some_of_many_and_all_again(rt: HostRuntime) -> Result<(), Fail> {
+        let mut dma = Dma::keeping(Pages::zeroed(rt.alloc(), 5)?);
+        let mut two = Pages::zeroed(rt.alloc(), 2)?;
+        two.set_block(0, &Block { bytes: [7; 512] });
+        let warm = dma.exchange(two);
+        assert_eq!(rt; warm.blocks(), 2);
+        assert_eq!(rt; dma.exchange(warm).block(0).bytes[0], 7);
+        // Those that were too many for two are there still.
+        let five = dma.exchange(Pages::zeroed(rt.alloc(), 5)?);
+        assert_eq!(rt; five.blocks(), 5);
+        assert!(rt; dma.exchange(Pages::default()).blocks() == 0);
+        assert_eq!(rt; dma.exchange(five).blocks(), 5);
         Ok(())
     }
 }

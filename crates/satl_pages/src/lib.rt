@@ -3,6 +3,7 @@
 
 mod dma;
 mod pool;
+mod stock;
 
 pub use dma::Dma;
 pub use pool::Pool;

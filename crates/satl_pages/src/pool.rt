@@ -2,7 +2,7 @@
 ghost use Rattle.std.specs.Prelude.{◌≡◌, ◌≤◌, ◌<◌, ◌+◌, ◌^◌, ◌↔◌, IfOk, IfSome, IfNone, IsNone, OnSome, length};
 ghost use Rattle.satl_pages.specs.Counts.{number_of, pages_in};
 
-use arrayvec::ArrayVec;
+use crate::stock::Stock;
 use satl_base::{Lender, NoMemory, Pages};
 use std::alloc::Global;
 use std::marker::Model;
@@ -11,25 +11,21 @@ use std::marker::Model;
 /// how many are out; their sum is the pool's number, which no call changes.
 #[derive(Drop)]
 pub struct Pool {
-    // What came back, each in one piece: who takes as many pages as the last has gets it without a walk along them.
-    pieces: ArrayVec<Pages, 64>,
-    // The same of rooms, which mostly come back as they went out: so pages that were written just now stay with those who write.
-    rooms: ArrayVec<Pages, 64>,
-    // All other free pages: those that never went out, and those that found no place among the pieces.
-    others: Pages,
-    free: u32,
+    data: Stock,
+    // Apart from the others: who writes gets pages that were written not long ago, and not those that lay empty.
+    rooms: Stock,
     number: u32,
 }
 
 impl Model for Pool {
-    ghost use Rattle.std.specs.Prelude.{◌≡◌, ◌≤◌, ◌<◌, ◌+◌, ◌-◌, ◌^◌, length};
-    ghost use Rattle.satl_pages.specs.Counts.{Counts, pages_in};
+    ghost use Rattle.std.specs.Prelude.{◌≤◌, ◌<◌, ◌+◌, ◌-◌, ◌^◌};
+    ghost use Rattle.satl_pages.specs.Counts.{Counts};
 
     ghost Value = { Counts };
 
-    ghost view = { λ p. record { free = p.free; out = p.number - p.free } };
+    ghost view = { λ p. record { free = p.data + p.rooms; out = p.number - (p.data + p.rooms) } };
 
-    ghost invariant = { λ p. (pages_in p.pieces.items + pages_in p.rooms.items + length p.others ≡ p.free) × (p.free ≤ p.number) × (p.number < 2 ^ 32) };
+    ghost invariant = { λ p. (p.data + p.rooms ≤ p.number) × (p.number < 2 ^ 32) };
 }
 
 impl Pool {
@@ -39,10 +35,8 @@ impl Pool {
         ensures out { IfOk result (λ pool. pool.out ≡ 0) }
     {
         Ok(Pool {
-            pieces: ArrayVec::new(),
-            rooms: ArrayVec::new(),
-            others: Pages::zeroed(alloc, n)?,
-            free: n,
+            data: Stock::of(Pages::zeroed(alloc, n)?),
+            rooms: Stock::of(Pages::default()),
             number: n,
         })
     }
@@ -58,7 +52,7 @@ impl Pool {
     pub fn free(&self) -> u32
         ensures { result ≡ self.now.free }
     {
-        self.free
+        self.data.count() + self.rooms.count()
     }
 
     /// Takes `n` pages, with whatever they hold. None exactly where fewer are free. It takes no memory (profile).
@@ -71,18 +65,13 @@ impl Pool {
         ensures out { OnSome result (self.new.out ≡ self.old.out + n) }
         ensures none_lost { number_of self.new ≡ number_of self.old }
     {
-        if self.free < n {
-            return None;
+        if self.data.count() < n {
+            if self.free() < n {
+                return None;
+            }
+            self.rooms.pour(&mut self.data);
         }
-        self.free -= n;
-        if let Some(piece) = take_piece(&mut self.pieces, n) {
-            return Some(piece);
-        }
-        if self.others.blocks() < n {
-            join(&mut self.pieces, &mut self.others);
-            join(&mut self.rooms, &mut self.others);
-        }
-        Some(take_first(&mut self.others, n))
+        self.data.take(n)
     }
 
     /// Takes pages back, at most as many as are out. It takes no memory (profile).
@@ -93,8 +82,7 @@ impl Pool {
         ensures none_lost { number_of self.new ≡ number_of self.old }
     {
         if pages.blocks() > 0 {
-            self.free += pages.blocks();
-            put_back(pages, &mut self.pieces, &mut self.others);
+            self.data.give(pages);
         }
     }
 
@@ -108,11 +96,8 @@ impl Pool {
         ensures out { OnSome result (self.new.out ≡ self.old.out + n) }
         ensures none_lost { number_of self.new ≡ number_of self.old }
     {
-        match take_piece(&mut self.rooms, n) {
-            Some(room) => {
-                self.free -= n;
-                Some(room)
-            }
+        match self.rooms.take(n) {
+            Some(room) => Some(room),
             None => self.take(n),
         }
     }
@@ -125,65 +110,8 @@ impl Pool {
         ensures none_lost { number_of self.new ≡ number_of self.old }
     {
         if pages.blocks() > 0 {
-            self.free += pages.blocks();
-            put_back(pages, &mut self.rooms, &mut self.others);
+            self.rooms.give(pages);
         }
-    }
-}
-
-/// Puts pages among the pieces, or before the others where there is no place. Apart from its callers, so that these are short
-/// where there are no pages, as is often so.
-#[inline(never)]
-fn put_back(pages: Pages, pieces: &mut ArrayVec<Pages, 64>, others: &mut Pages)
-    requires { length pages + length others.old < 2 ^ 32 }
-    ensures { pages_in pieces.new.items + length others.new ≡ pages_in pieces.old.items + length others.old + length pages }
-{
-    if pieces.is_full() {
-        put_by(pages, others);
-    } else {
-        pieces.push(pages);
-    }
-}
-
-/// Takes the last piece, if it has exactly n pages.
-fn take_piece(pieces: &mut ArrayVec<Pages, 64>, n: u32) -> Option<Pages>
-    ensures some { IfSome result (λ piece. (length piece ≡ n) × (pages_in pieces.new.items + n ≡ pages_in pieces.old.items)) }
-    ensures none { IfNone result (pieces.new ≡ pieces.old) }
-{
-    match pieces.last() {
-        Some(piece) if piece.blocks() == n => pieces.pop(),
-        _ => None,
-    }
-}
-
-/// Takes the first n pages off, one by one.
-fn take_first(pages: &mut Pages, n: u32) -> Pages
-    requires { n ≤ length pages.old }
-    ensures taken { length result ≡ n }
-    ensures rest { length pages.new + n ≡ length pages.old }
-{
-    let mut first = Pages::default();
-    pages.move_first(n, &mut first);
-    first
-}
-
-/// Puts these pages before the others, one by one.
-fn put_by(pages: Pages, others: &mut Pages)
-    requires { length pages + length others.old < 2 ^ 32 }
-    ensures { length others.new ≡ length pages + length others.old }
-{
-    let mut pages = pages;
-    pages.move_first(pages.blocks(), others);
-}
-
-/// Puts the pages of all pieces before the others, so that no piece is left.
-fn join(pieces: &mut ArrayVec<Pages, 64>, others: &mut Pages)
-    requires { pages_in pieces.old.items + length others.old < 2 ^ 32 }
-    ensures none { pages_in pieces.new.items ≡ 0 }
-    ensures all { length others.new ≡ pages_in pieces.old.items + length others.old }
-{
-    while let Some(piece) = pieces.pop() {
-        put_by(piece, others);
     }
 }
 
@@ -241,9 +169,10 @@ mod tests {
         let three = pool.take(3).expect(&rt, "three pages");
         pool.give(two);
         pool.give(three);
-        // The last piece as it is, and then the other one with what never went out.
+        // The last piece as it is, then a part of the other one, and then the rest of it with what never went out.
         assert_eq!(rt; pool.take(3).expect(&rt, "the last piece").blocks(), 3);
-        assert_eq!(rt; pool.take(3).expect(&rt, "all others").blocks(), 3);
+        assert_eq!(rt; pool.take(1).expect(&rt, "a part").blocks(), 1);
+        assert_eq!(rt; pool.take(2).expect(&rt, "all others").blocks(), 2);
         assert!(rt; pool.take(1).is_none());
         Ok(())
     }
@@ -260,7 +189,7 @@ mod tests {
         assert_eq!(rt; room.block(0).bytes[0], 7);
         assert!(rt; pool.take_room(1).is_none());
         pool.give_room(room);
-        // Where no other page is free, pages of a room go out one by one.
+        // Where no other page is free, those of a room go out.
         assert_eq!(rt; pool.take(1).expect(&rt, "a page of the room").blocks(), 1);
         Ok(())
     }

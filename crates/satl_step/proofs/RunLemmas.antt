@@ -86,9 +86,9 @@ allowed_push [] event lost = omega arith
 allowed_push (e ∷ events) event lost = omega (arith, allowed_push events event (is_lost_behind e lost))
 
 -- no call is left where no task is
-none_left : (lost : Bool) (s : Device) → s.tasks ≡ [] → calls_left lost s ≡ 0
-none_left true s idle = refl
-none_left false s idle = ap (λ l. turn_calls * length l) idle
+idle_leaves_none : (lost : Bool) (s : Device) → s.tasks ≡ [] → calls_left lost s ≡ 0
+idle_leaves_none true s idle = refl
+idle_leaves_none false s idle = ap (λ l. turn_calls * length l) idle
 
 -- POWER leaves no task
 powered_idle : (s new : Device) (answers : List Answer) (deep : ℕ) → Does (frames.Bench events.Power) s answers new deep → new.tasks ≡ []
@@ -104,9 +104,9 @@ unasked : (event : Frame) (a b : Stand) → a.device.down ≡ true → IsTallied
 unasked (frames.Bench what) a b down x = x.uncalled tt
 unasked _ a b down x = x.uncalled down
 
-left_none : (event : Frame) (s : Device) → (event ≡ frames.Bench events.Power → s.tasks ≡ []) → calls_left (is_lost_behind event true) s ≡ 0
-left_none (frames.Bench events.Power) s idle = none_left false s (idle refl)
-left_none _ s idle = refl
+lost_leaves_none : (event : Frame) (s : Device) → (event ≡ frames.Bench events.Power → s.tasks ≡ []) → calls_left (is_lost_behind event true) s ≡ 0
+lost_leaves_none (frames.Bench events.Power) s idle = idle_leaves_none false s (idle refl)
+lost_leaves_none _ s idle = refl
 
 few_left : (event : Frame) (s : Device) → calls_left (is_lost_behind event false) s ≤ turn_calls * length s.tasks
 few_left (frames.Bench events.Unplug) s = omega arith
@@ -116,7 +116,7 @@ few_left _ s = omega arith
 calls_more : (lost : Bool) (event : Frame) (a b : Stand) (limit : ℕ) → (lost ≡ true → a.device.down ≡ true) → (event ≡ frames.Bench events.Power → b.device.tasks ≡ []) → IsTallied event a b → a.tally.calls + calls_left lost a.device ≤ limit →
     b.tally.calls + calls_left (is_lost_behind event lost) b.device ≤ limit + (if lost then 0 else calls_of event)
 calls_more false event a b limit known idle x few = omega (arith, few, x.calls, few_left event b.device)
-calls_more true event a b limit known idle x few = omega (arith, few, unasked event a b (known refl) x, left_none event b.device idle)
+calls_more true event a b limit known idle x few = omega (arith, few, unasked event a b (known refl) x, lost_leaves_none event b.device idle)
 
 -- events and one more are counted
 counted_more : (events : List Frame) (losses : ℕ) (before a b : Stand) (event whole : Frame) (given : List Answer) → (is_lost_behind_all events before.device.down ≡ true → a.device.down ≡ true) → AreCounted events losses before a → IsWholeOf event whole → DoesInPart whole a.device given b.device → IsTallied event a b → AreCounted (events ++ whole ∷ []) (losses + losses_in whole a.device b.device) before b
@@ -148,7 +148,7 @@ run_start a idle = record {
     unplugged = RoseBy-none a.tally.unplugs;
     few_unplugs = omega arith;
     orders = refl;
-    few_calls = omega (arith, none_left a.device.down a.device idle);
+    few_calls = omega (arith, idle_leaves_none a.device.down a.device idle);
     queue = covers_same a;
   };
   covered = λ deep. omega arith;
