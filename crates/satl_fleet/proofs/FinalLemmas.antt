@@ -1,5 +1,5 @@
 -- Serving, from before the units were opened to its end.
-use Rattle.std.proofs.Common.{◌≡◌, ◌⊎◌, inl, inr, refl, subst, arith, ℕ, ◌+◌, ◌≤◌, List, [], ◌∷◌, ◌++◌, length}
+use Rattle.std.proofs.Common.{◌≡◌, inl, inr, refl, subst, arith, ℕ, ◌+◌, ◌≤◌, List, [], ◌∷◌, ◌++◌, length}
 use Rattle.std.specs.List.{AllByRecursion}
 use Rattle.satl_frame.specs.declared.frames.FrameFault.{FrameFault}
 use Rattle.satl_frame.specs.declared.frames.FrameFault.TheVariants.{Bad, ReadFault}
@@ -9,7 +9,7 @@ use Rattle.satl_fleet.specs.Headline.{BrokeInFault, BrokeInMagic, BrokeInRound, 
 use Rattle.satl_fleet.specs.Moments.{FleetMoment}
 use Rattle.satl_fleet.specs.Opening.{IsCauseOfOne, OpensTo}
 use Rattle.satl_fleet.specs.Output.{Round}
-use Rattle.satl_fleet.specs.Runs.{AreServed, AreServedInPart, HaveRun, HaveRunInPart}
+use Rattle.satl_fleet.specs.Runs.{AreServed, HaveRun}
 use Rattle.satl_fleet.specs.Stopping.{HasFleetCause, RanBefore, RanInPart, RanTo, RanWhole, Spot, StoppedInAnswers, StoppedInFault, StoppedInMagic}
 use Rattle.satl_fleet.specs.Units.{IsTiedUnit, unit_states}
 use Rattle.satl_core.specs.declared.satl.OpenFault.TheVariants.{NoMemory}
@@ -17,6 +17,7 @@ use Rattle.satl_serve.specs.declared.serving.ServeFault.{ServeFault}
 use Rattle.satl_serve.specs.declared.serving.ServeFault.TheVariants as faults
 use Rattle.satl_serve.specs.Stopping.{HasStreamCause}
 use Rattle.satl_fleet.proofs.OpeningLemmas.{all_same}
+use Rattle.satl_fleet.proofs.RunLemmas.{cut_so}
 use Rattle.satl_fleet.proofs.ServingLemmas.{are_served, are_served_part}
 
 -- ---- no unit was opened
@@ -65,14 +66,12 @@ module _ (limit units : ℕ) (before after : FleetMoment) (mids : List DriveStat
     round = r.round;
     are_rounds = r.are_rounds;
     breaks = r.breaks;
-    served = by_run r.run;
+    cut = cut_so
+        (λ run. served (r.rounds ++ r.round ∷ []) run)
+        (λ stop run. are_served_part (length before.drives) stop 0 r.rounds r.round ls' after.drives o each long run tied)
+        r.cut;
     calls = omega (arith, few, r.calls);
   }
-    where
-      by_run : HaveRun (length before.drives) 0 (r.rounds ++ r.round ∷ []) (unit_states ls mids) (unit_states ls' after.drives) ⊎ HaveRunInPart (length before.drives) r.rounds r.round 0 (unit_states ls mids) (unit_states ls' after.drives)
-          → AreServed (length before.drives) 0 (r.rounds ++ r.round ∷ []) before.drives after.drives ⊎ AreServedInPart (length before.drives) r.rounds r.round 0 before.drives after.drives
-      by_run (inl run) = inl (served (r.rounds ++ r.round ∷ []) run)
-      by_run (inr run) = inr (are_served_part (length before.drives) 0 r.rounds r.round ls' after.drives o each long run tied)
 
   in_fault : StoppedInFault limit (length before.drives) a b → BrokeInFault limit before after
   in_fault r = record { rounds = r.rounds; are_rounds = r.are_rounds; breaks = r.breaks; served = served r.rounds r.run; calls = omega (arith, few, r.calls) }

@@ -1,5 +1,5 @@
 -- A frame, routed.
-use Rattle.std.proofs.Common.{◌≡◌, inl, inr, refl, sym, ap, subst, ◌∙◌, arith, ℕ, true, false, List, [], ◌∷◌, ◌++◌}
+use Rattle.std.proofs.Common.{◌≡◌, refl, sym, ap, subst, ◌∙◌, arith, ℕ, true, false, List, [], ◌∷◌, ◌++◌}
 use Rattle.std.proofs.lemmas.Bool.{eq-eqb, ne_eqb}
 use Rattle.std.proofs.lemmas.List.{append-nil}
 use Rattle.std.specs.Prelude.{◌==◌, if◌then◌else◌, Option}
@@ -7,19 +7,20 @@ use Rattle.std.specs.List.{AllByRecursion}
 use Rattle.satl_base.specs.declared.request.Request.{Request}
 use Rattle.satl_base.specs.declared.request.Manage.{Manage}
 use Rattle.satl_io.specs.Known.{Wrote, WrotePart}
-use Rattle.satl_io.proofs.Joined.{Wrote-more, WrotePart-front, WrotePart-more}
+use Rattle.satl_io.proofs.Joined.{Wrote-more, Wrote-none, WrotePart-front, WrotePart-more}
 use Rattle.satl_frame.specs.Output.{Answer, end_bytes}
 use Rattle.satl_frame.specs.Output.Answer.{replied}
 use Rattle.satl_frame.specs.declared.frames.Frame.{Frame}
 use Rattle.satl_frame.specs.declared.frames.Frame.TheVariants as frames
 use Rattle.satl_fleet.specs.Output.{end_told, named, round_told, target_told, told_from, told_under}
 use Rattle.satl_fleet.specs.Rounds.{AllDid, AllDidInPart, CallsNoneAt, DidAt, DidAtInPart, EachDid, IsTurnOrBench, NoneCalls, RoundDone, RoundInPart, Stage, Stops, round_of, silence, stage}
+use Rattle.satl_fleet.specs.Rounds.IsCut.{at_unit, behind_all}
 use Rattle.satl_fleet.specs.Routing.{is_for_all, is_report, lun_0, route_to, seen}
 use Rattle.satl_fleet.specs.declared.routing.Route.{Route}
 use Rattle.satl_fleet.specs.Target.{target_reply}
 use Rattle.satl_fleet.specs.Serving.{Target}
 use Rattle.satl_fleet.specs.Units.{UnitState}
-use Rattle.satl_fleet.proofs.RoundLemmas.{all_pass, alone, one_serves, one_stops, serves_all, stops_all, told_alone, told_silence}
+use Rattle.satl_fleet.proofs.RoundLemmas.{all_pass, alone, alone_breaks, one_serves, one_stops, serves_all, stops_all, told_alone, told_silence}
 
 -- ---- what it is to the units
 
@@ -78,7 +79,7 @@ module _ (units : ℕ) (frame : Frame) (quiet : target_told units frame ≡ []) 
     pub all_round_part : ((k : ℕ) → seen units k frame ≡ event ∷ []) → AllDidInPart event a b → RoundInPart units frame a b
     all_round_part each all = record {
       groups = all.groups;
-      each = inr (stops_all units frame event each 0 all.did);
+      cut = at_unit all.stop (stops_all units frame event each 0 all.stop all.did (omega arith)) all.breaks;
       part = subst (WrotePart a.written b.written) (plain_told all.groups) all.part;
     }
 
@@ -93,7 +94,9 @@ module _ (units : ℕ) (frame : Frame) (quiet : target_told units frame ≡ []) 
       pub one_round_part : DidAtInPart at event a b → RoundInPart units frame a b
       one_round_part d = record {
         groups = alone at d.answers a.target.units;
-        each = inr (subst (λ ss. Stops units frame 0 (alone at d.answers a.target.units) a.target.units ss) (sym d.set) (one_stops units frame event at here others d.answers d.old d.new 0 at a.target.units (omega arith) d.here d.did));
+        cut = at_unit at
+            (subst (λ ss. Stops units frame at 0 (alone at d.answers a.target.units) a.target.units ss) (sym d.set) (one_stops units frame event at here others d.answers d.old d.new 0 at a.target.units (omega arith) d.here d.did))
+            (alone_breaks at d.answers a.target.units d.old a.written b.written d.here d.part);
         part = subst (WrotePart a.written b.written) (ap (λ n. told_under n d.answers) (omega arith) ∙ (sym (told_alone 0 at d.answers a.target.units d.old d.here) ∙ plain_told (alone at d.answers a.target.units))) d.part;
       }
 
@@ -114,7 +117,11 @@ module _ (units : ℕ) (r : Request) (said : is_report r ≡ true) (t : Target) 
   pub report_round_part : WrotePart written written' (named 0 (replied (target_reply units r) ∷ [])) → RoundInPart units (frames.Request r) (stage t written) (stage t written')
   report_round_part part = record {
     groups = silence t.units;
-    each = inl (all_pass units (frames.Request r) (frames.Request r) 0 t.units (λ i le. request_none units r said i));
+    cut = behind_all (all_pass units (frames.Request r) (frames.Request r) 0 t.units (λ i le. request_none units r said i)) (record {
+      behind = written;
+      wrote = subst (Wrote written written) (sym (told_silence 0 t.units)) (Wrote-none written);
+      part = subst (WrotePart written written') (sym (ap (λ b. (if b then named 0 (replied (target_reply units r) ∷ []) else []) ++ []) said ∙ append-nil (named 0 (replied (target_reply units r) ∷ [])))) part;
+    });
     part = subst (WrotePart written written') reported part;
   }
 
@@ -124,10 +131,18 @@ module _ (units : ℕ) (a b : Stage) (written : Option (List ℕ)) where
   end_round all wrote = record { groups = all.groups; each = serves_all units frames.End frames.End (λ k. refl) 0 all.did refl; wrote = Wrote-more all.wrote wrote }
 
   pub end_round_part : AllDid frames.End a b → WrotePart b.written written end_bytes → RoundInPart units frames.End a (record b { written = written })
-  end_round_part all part = record { groups = all.groups; each = inl (serves_all units frames.End frames.End (λ k. refl) 0 all.did refl); part = WrotePart-more all.wrote part }
+  end_round_part all part = record {
+    groups = all.groups;
+    cut = behind_all (serves_all units frames.End frames.End (λ k. refl) 0 all.did refl) (record { behind = b.written; wrote = all.wrote; part = part });
+    part = WrotePart-more all.wrote part;
+  }
 
 pub end_round_cut : (units : ℕ) (a b : Stage) → AllDidInPart frames.End a b → RoundInPart units frames.End a b
-end_round_cut units a b all = record { groups = all.groups; each = inr (stops_all units frames.End frames.End (λ k. refl) 0 all.did); part = WrotePart-front end_bytes all.part }
+end_round_cut units a b all = record {
+  groups = all.groups;
+  cut = at_unit all.stop (stops_all units frames.End frames.End (λ k. refl) 0 all.stop all.did (omega arith)) all.breaks;
+  part = WrotePart-front end_bytes all.part;
+}
 
 -- turns, and events of the bench
 pub turn_seen : (units : ℕ) (frame : Frame) → IsTurnOrBench frame → (k : ℕ) → seen units k frame ≡ frame ∷ []

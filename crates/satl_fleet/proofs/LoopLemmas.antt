@@ -1,7 +1,6 @@
 -- Frames that a reader gives, one after the other.
-use Rattle.std.proofs.Common.{◌≡◌, ◌⊎◌, append_assoc, inl, inr, refl, sym, ap, subst, ◌∙◌, arith, ℕ, ◌+◌, ◌*◌, ◌≤◌, true, false, List, [], ◌∷◌, ◌++◌, length}
+use Rattle.std.proofs.Common.{◌≡◌, append_assoc, refl, sym, ap, subst, ◌∙◌, arith, ℕ, ◌+◌, ◌*◌, ◌≤◌, Bool, true, false, List, [], ◌∷◌, ◌++◌, length}
 use Rattle.std.proofs.lemmas.List.{append-nil, take_all}
-use Rattle.std.proofs.lemmas.List.Sums.{sum_by_push}
 use Rattle.std.specs.Prelude.{Option, None}
 use Rattle.std.specs.List.{AllByRecursion}
 use Rattle.satl_base.specs.declared.request.Request.{Request}
@@ -20,15 +19,20 @@ use Rattle.satl_frame.proofs.ProgressLemmas.{has_read_more}
 use Rattle.satl_line.proofs.SlotsLemmas.{All-append}
 use Rattle.satl_core.specs.Turning.{turn_calls}
 use Rattle.satl_step.specs.Loop.{is_end}
+use Rattle.satl_step.specs.Runs.{calls_allowed, is_lost_behind_all}
+use Rattle.satl_step.proofs.LostLemmas.{lost_push}
+use Rattle.satl_step.proofs.RunLemmas.{allowed_push}
 use Rattle.satl_step.proofs.LoopLemmas.{expectable, holds, not_end, the_end}
-use Rattle.satl_fleet.specs.Loop.{Going, HasGiven, LoopState, ReachedEnd, SoFar, StoppedInRound}
+use Rattle.satl_fleet.specs.Loop.{Going, HasGiven, LoopState, ReachedEnd, SoFar, StoppedInRound, calls_due_unless}
 use Rattle.satl_fleet.specs.Output.{IsRoundOf, Round, frames_of, round_told, rounds_told}
-use Rattle.satl_fleet.specs.Rounds.{CanRoute, EachDid, RoundDone, RoundInPart, Stops, calls_for, frame_calls, round_of}
-use Rattle.satl_fleet.specs.Runs.{HasNoTask, HaveRun, HaveRunInPart}
+use Rattle.satl_fleet.specs.Rounds.{CanRoute, EachDid, IsCut, RoundDone, RoundInPart, NoneCalls, Stops, frame_calls, round_of}
+use Rattle.satl_fleet.specs.Rounds.IsCut.{at_unit, behind_all}
+use Rattle.satl_fleet.specs.Runs.{HasNoTask}
 use Rattle.satl_fleet.specs.Serving.{calls_due}
 use Rattle.satl_fleet.specs.Units.{UnitState, pending}
+use Rattle.satl_fleet.proofs.CallsLemmas.{due_more, due_part, lost_none_calls, power_idles}
 use Rattle.satl_fleet.proofs.RoundLemmas.{each_is_round, stops_is_round}
-use Rattle.satl_fleet.proofs.RunLemmas.{run_none, run_round, run_round_part}
+use Rattle.satl_fleet.proofs.RunLemmas.{cut_so, run_none, run_round, run_round_part}
 use Rattle.satl_fleet.proofs.SpotLemmas.{pending_cons}
 
 -- ---- whole frames
@@ -72,9 +76,6 @@ told_push : (units : ℕ) (rounds : List Round) (round : Round) → rounds_told 
 told_push units [] round = append-nil (round_told units round)
 told_push units (r ∷ rounds) round = ap (λ l. round_told units r ++ l) (told_push units rounds round) ∙ sym (append_assoc (round_told units r) (rounds_told units rounds) (round_told units round))
 
-calls_push : (units : ℕ) (fs : List Frame) (frame : Frame) → calls_for units (fs ++ frame ∷ []) ≡ calls_for units fs + frame_calls units frame
-calls_push units fs frame = sum_by_push (frame_calls units) fs frame
-
 none_pending : (ss : List UnitState) → AllByRecursion HasNoTask ss → pending ss ≡ 0
 none_pending [] idle = refl
 none_pending (s ∷ ss) idle = let none = ap length idle.0.tasks in let others = none_pending ss idle.1 in omega (arith, none, others, pending_cons s ss)
@@ -87,20 +88,26 @@ module _ (units : ℕ) where
     rounds = [];
     so_far = record {
       are_rounds = tt;
-      given = record { limit = refl; newest = refl; read = rw unread (refl, refl); calls = let none = ap (λ n. turn_calls * n) (none_pending a.stage.target.units idle) in omega (arith, none) };
+      given = record { limit = refl; newest = refl; read = rw unread (refl, refl) };
       wrote = Wrote-none a.stage.written;
       run = run_none units 0 a.stage.target.units idle;
+      calls = let none = ap (λ n. turn_calls * n) (none_pending a.stage.target.units idle) in omega (arith, none);
     };
     none_ends = tt;
   }
 
-  module _ (a b c : LoopState) (room : ℕ) (frame : Frame) (going : Going units a b) (gave : Gave b.reader room frame c.reader b.left c.left) (whole : gave.whole ≡ frame) (calls : calls_due c.stage.target c.calls ≤ calls_due b.stage.target b.calls + frame_calls units frame) (long : length b.stage.target.units ≡ units) where
-    given_more : HasGiven units a c (frames_of going.rounds ++ frame ∷ [])
+  module _ (a b c : LoopState) (room : ℕ) (frame : Frame) (going : Going units a b) (gave : Gave b.reader room frame c.reader b.left c.left) (whole : gave.whole ≡ frame) (calls : calls_due c.stage.target c.calls ≤ calls_due b.stage.target b.calls + frame_calls units frame) (uncalled : NoneCalls units frame b.stage.target.units → c.calls ≡ b.calls) (long : length b.stage.target.units ≡ units) where
+    abbrev lost : Bool
+    lost = is_lost_behind_all (frames_of going.rounds) false
+
+    uncalled_lost : lost ≡ true → c.calls ≡ b.calls
+    uncalled_lost is = uncalled (lost_none_calls units going.rounds a.stage.target.units b.stage.target.units going.so_far.run is frame)
+
+    given_more : HasGiven a c (frames_of going.rounds ++ frame ∷ [])
     given_more = record {
       limit = ap (λ (r : Reading). r.limit) gave.new_is ∙ going.so_far.given.limit;
       newest = ap (λ (r : Reading). r.newest) gave.new_is ∙ going.so_far.given.newest;
       read = subst (λ f. HasRead c.reader a.left c.left (frames_of going.rounds ++ f ∷ [])) whole (has_read_more b.reader c.reader a.left b.left c.left (frames_of going.rounds) room frame going.so_far.given.read going.none_ends gave);
-      calls = omega (arith, calls, going.so_far.given.calls, calls_push units (frames_of going.rounds) frame);
     }
 
     module _ (done : RoundDone units frame b.stage c.stage) where
@@ -110,9 +117,14 @@ module _ (units : ℕ) where
       so_far_more : SoFar units a c (going.rounds ++ round ∷ [])
       so_far_more = record {
         are_rounds = All-append (IsRoundOf units) going.rounds (round ∷ []) going.so_far.are_rounds (each_is_round units frame long done.each, tt);
-        given = subst (HasGiven units a c) (sym (frames_push going.rounds round)) given_more;
+        given = subst (HasGiven a c) (sym (frames_push going.rounds round)) given_more;
         wrote = subst (Wrote a.stage.written c.stage.written) (sym (told_push units going.rounds round)) (Wrote-more going.so_far.wrote done.wrote);
         run = run_round units going.rounds frame done.groups 0 [] a.stage.target.units refl refl going.so_far.run done.each;
+        calls =
+            let one = due_more b.stage.target c.stage.target b.calls c.calls _ (frame_calls units frame) calls lost frame uncalled_lost (power_idles units frame done.groups b.stage.target.units c.stage.target.units done.each) going.so_far.calls in
+            let behind = ap (λ x. calls_due_unless x c.stage.target c.calls) (ap (λ fs. is_lost_behind_all fs false) (frames_push going.rounds round) ∙ lost_push (frames_of going.rounds) frame false) in
+            let all = ap (λ fs. calls_allowed (frame_calls units) fs false) (frames_push going.rounds round) in
+            omega (arith, one, behind, all, allowed_push (frame_calls units) (frames_of going.rounds) frame false);
       }
 
       pub going_more : is_end frame ≡ false → Going units a c
@@ -135,17 +147,18 @@ module _ (units : ℕ) where
       mid = b;
       going = going;
       round = round_of frame done.groups;
-      is_round = is_round done.each;
+      is_round = is_round done.cut;
       given = given_more;
       part = done.part;
-      run = by_each done.each;
+      calls =
+          let one = due_part b.stage.target c.stage.target b.calls c.calls _ (frame_calls units frame) calls lost uncalled_lost going.so_far.calls in
+          omega (arith, one, allowed_push (frame_calls units) (frames_of going.rounds) frame false);
+      cut = cut_so
+          (λ each. run_round units going.rounds frame done.groups 0 [] a.stage.target.units refl refl going.so_far.run each)
+          (λ stop stops. run_round_part units going.rounds frame done.groups stop 0 [] a.stage.target.units refl refl going.so_far.run stops)
+          done.cut;
     }
       where
-        is_round : EachDid units frame 0 done.groups b.stage.target.units c.stage.target.units ⊎ Stops units frame 0 done.groups b.stage.target.units c.stage.target.units → IsRoundOf units (round_of frame done.groups)
-        is_round (inl each) = each_is_round units frame long each
-        is_round (inr stops) = stops_is_round units frame long stops
-
-        by_each : EachDid units frame 0 done.groups b.stage.target.units c.stage.target.units ⊎ Stops units frame 0 done.groups b.stage.target.units c.stage.target.units
-            → HaveRun units 0 (going.rounds ++ round_of frame done.groups ∷ []) a.stage.target.units c.stage.target.units ⊎ HaveRunInPart units going.rounds (round_of frame done.groups) 0 a.stage.target.units c.stage.target.units
-        by_each (inl each) = inl (run_round units going.rounds frame done.groups 0 [] a.stage.target.units refl refl going.so_far.run each)
-        by_each (inr each) = inr (run_round_part units going.rounds frame done.groups 0 [] a.stage.target.units refl refl going.so_far.run each)
+        is_round : IsCut units (round_of frame done.groups) b.stage.written c.stage.written (EachDid units frame 0 done.groups b.stage.target.units c.stage.target.units) (λ stop. Stops units frame stop 0 done.groups b.stage.target.units c.stage.target.units) → IsRoundOf units (round_of frame done.groups)
+        is_round (behind_all each breaks) = each_is_round units frame long each
+        is_round (at_unit stop stops breaks) = stops_is_round units frame long stops

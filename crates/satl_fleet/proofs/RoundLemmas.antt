@@ -1,13 +1,13 @@
 -- One frame over the units.
-use Rattle.std.proofs.Common.{◌≡◌, append_assoc, refl, sym, ap, subst, ◌∙◌, arith, ℕ, zero, suc, ◌+◌, ◌≤◌, List, [], ◌∷◌, ◌++◌, drop, length}
+use Rattle.std.proofs.Common.{◌≡◌, append_assoc, refl, sym, ap, subst, ◌∙◌, arith, ℕ, zero, suc, ◌+◌, ◌≤◌, List, [], ◌∷◌, ◌++◌, drop, length, take}
 use Rattle.std.proofs.lemmas.List.{append-nil, length-map}
-use Rattle.std.specs.Prelude.{Some, IfSome, slice_get, slice_index_or, slice_set}
+use Rattle.std.specs.Prelude.{Option, Some, IfSome, slice_get, slice_index_or, slice_set}
 use Rattle.satl_io.specs.Known.{Wrote, WrotePart}
 use Rattle.satl_io.proofs.Joined.{Wrote-more, Wrote-none, WrotePart-more}
 use Rattle.satl_frame.specs.Output.{Answer}
 use Rattle.satl_frame.specs.declared.frames.Frame.{Frame}
 use Rattle.satl_fleet.specs.Output.{IsRoundOf, told_from, told_under}
-use Rattle.satl_fleet.specs.Rounds.{AllDid, AllDidInPart, CallsNoneAt, DidAt, DidAtInPart, DidTo, DidToInPart, EachDid, Stage, Stops, round_of, silence}
+use Rattle.satl_fleet.specs.Rounds.{AllDid, AllDidInPart, BreaksAt, CallsNoneAt, DidAt, DidAtInPart, DidTo, DidToInPart, EachDid, Stage, Stops, round_of, silence}
 use Rattle.satl_fleet.specs.Rounds.DidTo.{rest, more}
 use Rattle.satl_fleet.specs.Rounds.DidToInPart.{here as part_here, later as part_later}
 use Rattle.satl_fleet.specs.Rounds.EachDid.{none as no_unit, passes as unit_passes, serves as unit_serves}
@@ -43,7 +43,37 @@ told_alone k j answers [] old is = absurd cc
 told_alone k zero answers (s ∷ ss) old is = ap (λ l. told_under k answers ++ l) (told_silence (suc k) ss) ∙ (append-nil (told_under k answers) ∙ ap (λ n. told_under n answers) (omega arith))
 told_alone k (suc j) answers (s ∷ ss) old is = told_alone (suc k) j answers ss old is ∙ ap (λ n. told_under n answers) (omega arith)
 
+-- those before it answer nothing
+told_before_alone : (k j : ℕ) (answers : List Answer) (ss : List UnitState) → told_from k (take j (alone j answers ss)) ≡ []
+unfolding alone
+told_before_alone k zero answers ss = refl
+told_before_alone k (suc j) answers [] = refl
+told_before_alone k (suc j) answers (s ∷ ss) = told_before_alone (suc k) j answers ss
+
+alone_at : (j : ℕ) (answers : List Answer) (ss : List UnitState) (old : UnitState) → slice_get ss j ≡ Some old → slice_index_or (alone j answers ss) j [] ≡ answers
+unfolding alone
+alone_at j answers [] old is = absurd cc
+alone_at zero answers (s ∷ ss) old is = refl
+alone_at (suc j) answers (s ∷ ss) old is = alone_at j answers ss old is
+
+-- the output breaks off in its answers
+pub alone_breaks : (j : ℕ) (answers : List Answer) (ss : List UnitState) (old : UnitState) (before after : Option (List ℕ)) → slice_get ss j ≡ Some old → WrotePart before after (told_under j answers) → BreaksAt j (alone j answers ss) before after
+alone_breaks j answers ss old before after is part = record {
+  behind = before;
+  wrote = subst (Wrote before before) (sym (told_before_alone 0 j answers ss)) (Wrote-none before);
+  part = subst (λ l. WrotePart before after (told_under j l)) (sym (alone_at j answers ss old is)) part;
+}
+
 -- ---- so many units
+
+-- the groups before a unit, and its own
+pub group_at : (before : List (List Answer)) (answers : List Answer) (behind : List (List Answer)) (k : ℕ) → length before ≡ k → slice_index_or (before ++ answers ∷ behind) k [] ≡ answers
+group_at [] answers behind k is = ap (λ n. slice_index_or (answers ∷ behind) n []) (sym is)
+group_at (g ∷ gs) answers behind k is = ap (λ n. slice_index_or (g ∷ (gs ++ answers ∷ behind)) n []) (sym is) ∙ group_at gs answers behind (length gs) refl
+
+groups_before : (before behind : List (List Answer)) (k : ℕ) → length before ≡ k → take k (before ++ behind) ≡ before
+groups_before [] behind k is = ap (λ n. take n behind) (sym is)
+groups_before (g ∷ gs) behind k is = ap (λ n. take n (g ∷ (gs ++ behind))) (sym is) ∙ ap (λ l. g ∷ l) (groups_before gs behind (length gs) refl)
 
 did_length : {event : Frame} {n : ℕ} {groups : List (List Answer)} {olds news : List UnitState} → DidTo event n groups olds news → length groups ≡ n
 did_length rest = refl
@@ -57,11 +87,11 @@ did_push : {event : Frame} {n : ℕ} {groups : List (List Answer)} {answers : Li
 did_push {olds = ss} rest is did = first_did ss is did
 did_push (more d to) is did = more d (did_push to is did)
 
-first_part : {event : Frame} {answers : List Answer} {old new : UnitState} (ss : List UnitState) → slice_get ss 0 ≡ Some old → DidInPart event old answers new → DidToInPart event (answers ∷ silence (drop 1 ss)) ss (slice_set ss 0 new)
+first_part : {event : Frame} {answers : List Answer} {old new : UnitState} (ss : List UnitState) → slice_get ss 0 ≡ Some old → DidInPart event old answers new → DidToInPart event 0 (answers ∷ silence (drop 1 ss)) ss (slice_set ss 0 new)
 first_part [] is did = absurd cc
-first_part {event} {answers} {old} {new} (s ∷ ss) is did = let same : old ≡ s = cc in subst (λ x. DidToInPart event (answers ∷ silence ss) (x ∷ ss) (new ∷ ss)) same (part_here did)
+first_part {event} {answers} {old} {new} (s ∷ ss) is did = let same : old ≡ s = cc in subst (λ x. DidToInPart event 0 (answers ∷ silence ss) (x ∷ ss) (new ∷ ss)) same (part_here did)
 
-part_push : {event : Frame} {n : ℕ} {groups : List (List Answer)} {answers : List Answer} {olds news : List UnitState} {old new : UnitState} → DidTo event n groups olds news → slice_get news n ≡ Some old → DidInPart event old answers new → DidToInPart event (groups ++ answers ∷ silence (drop (suc n) olds)) olds (slice_set news n new)
+part_push : {event : Frame} {n : ℕ} {groups : List (List Answer)} {answers : List Answer} {olds news : List UnitState} {old new : UnitState} → DidTo event n groups olds news → slice_get news n ≡ Some old → DidInPart event old answers new → DidToInPart event n (groups ++ answers ∷ silence (drop (suc n) olds)) olds (slice_set news n new)
 part_push {olds = ss} rest is did = first_part ss is did
 part_push (more d to) is did = part_later d (part_push to is did)
 
@@ -92,8 +122,14 @@ done_all event n a b all done = record { groups = done.groups; did = subst (λ m
 
 pub done_part : (event : Frame) (n : ℕ) (a b c : Stage) → DoneTo event n a b → DidAtInPart n event b c → AllDidInPart event a c
 done_part event n a b c done at = record {
+  stop = n;
   groups = done.groups ++ at.answers ∷ silence (drop (suc n) a.target.units);
-  did = subst (DidToInPart event (done.groups ++ at.answers ∷ silence (drop (suc n) a.target.units)) a.target.units) (sym at.set) (part_push done.did at.here at.did);
+  did = subst (DidToInPart event n (done.groups ++ at.answers ∷ silence (drop (suc n) a.target.units)) a.target.units) (sym at.set) (part_push done.did at.here at.did);
+  breaks = record {
+    behind = b.written;
+    wrote = subst (λ gs. Wrote a.written b.written (told_from 0 gs)) (sym (groups_before done.groups (at.answers ∷ silence (drop (suc n) a.target.units)) n (did_length done.did))) done.wrote;
+    part = subst (λ l. WrotePart b.written c.written (told_under n l)) (sym (group_at done.groups at.answers (silence (drop (suc n) a.target.units)) n (did_length done.did))) at.part;
+  };
   part = subst (WrotePart a.written c.written) (place at.answers (drop (suc n) a.target.units) done.did) (WrotePart-more done.wrote at.part);
 }
 
@@ -114,9 +150,9 @@ module _ (units : ℕ) (frame event : Frame) where
   serves_all each k {olds = s ∷ ss} rest all = absurd (omega (arith, all))
   serves_all each k (more did to) all = unit_serves event (each k) did (serves_all each (suc k) to (omega (arith, all)))
 
-  pub stops_all : ((k : ℕ) → seen units k frame ≡ event ∷ []) → (k : ℕ) {groups : List (List Answer)} {olds news : List UnitState} → DidToInPart event groups olds news → Stops units frame k groups olds news
-  stops_all each k (part_here did) = stop_here event (each k) did
-  stops_all each k (part_later did to) = stop_serves event (each k) did (stops_all each (suc k) to)
+  pub stops_all : ((k : ℕ) → seen units k frame ≡ event ∷ []) → (k stop : ℕ) {n : ℕ} {groups : List (List Answer)} {olds news : List UnitState} → DidToInPart event n groups olds news → stop ≡ k + n → Stops units frame stop k groups olds news
+  stops_all each k stop (part_here did) is = stop_here event (omega (arith, is)) (each k) did
+  stops_all each k stop (part_later did to) is = stop_serves event (each k) did (stops_all each (suc k) stop to (omega (arith, is)))
 
   pub all_pass : (k : ℕ) (ss : List UnitState) → ((i : ℕ) → k ≤ i → seen units i frame ≡ []) → EachDid units frame k (silence ss) ss ss
   all_pass k [] none = no_unit
@@ -133,14 +169,14 @@ module _ (units : ℕ) (frame event : Frame) where
         (unit_serves event (subst (λ n. seen units n frame ≡ event ∷ []) now here) did (all_pass (suc k) ss (λ i le. others i (λ e. omega (arith, le, e, is)))))
     one_serves k (suc j) (s ∷ ss) is there did = unit_passes (others k (λ e. omega (arith, e, is))) (one_serves (suc k) j ss (omega (arith, is)) there did)
 
-    pub one_stops : (k j : ℕ) (ss : List UnitState) → at ≡ k + j → slice_get ss j ≡ Some old → DidInPart event old answers new → Stops units frame k (alone j answers ss) ss (slice_set ss j new)
+    pub one_stops : (k j : ℕ) (ss : List UnitState) → at ≡ k + j → slice_get ss j ≡ Some old → DidInPart event old answers new → Stops units frame at k (alone j answers ss) ss (slice_set ss j new)
     unfolding alone
     one_stops k j [] is there did = absurd cc
     one_stops k zero (s ∷ ss) is there did =
         let same : old ≡ s = cc in
         let now : at ≡ k = omega (arith, is) in
-        subst (λ x. Stops units frame k (answers ∷ silence ss) (x ∷ ss) (new ∷ ss)) same
-        (stop_here event (subst (λ n. seen units n frame ≡ event ∷ []) now here) did)
+        subst (λ x. Stops units frame at k (answers ∷ silence ss) (x ∷ ss) (new ∷ ss)) same
+        (stop_here event (sym now) (subst (λ n. seen units n frame ≡ event ∷ []) now here) did)
     one_stops k (suc j) (s ∷ ss) is there did = stop_passes (others k (λ e. omega (arith, e, is))) (one_stops (suc k) j ss (omega (arith, is)) there did)
 
 -- ---- who answers
@@ -174,14 +210,14 @@ module _ (units : ℕ) (frame : Frame) where
   each_silent k (suc j) (unit_serves event sees did others) none = each_silent (suc k) j others (further k j none)
 
   -- the same, up to a unit that did it in part
-  stops_length : {k : ℕ} {groups : List (List Answer)} {olds news : List UnitState} → Stops units frame k groups olds news → length groups ≡ length olds
-  stops_length (stop_here {ss = ss} event sees did) = ap suc (length-map ss (λ _. []))
+  stops_length : {stop k : ℕ} {groups : List (List Answer)} {olds news : List UnitState} → Stops units frame stop k groups olds news → length groups ≡ length olds
+  stops_length (stop_here {ss = ss} event is sees did) = ap suc (length-map ss (λ _. []))
   stops_length (stop_passes unseen others) = ap suc (stops_length others)
   stops_length (stop_serves event sees did others) = ap suc (stops_length others)
 
-  stops_silent : (k j : ℕ) {groups : List (List Answer)} {olds news : List UnitState} → Stops units frame k groups olds news → seen units (k + j) frame ≡ [] → slice_index_or groups j [] ≡ []
-  stops_silent k zero (stop_here event sees did) none = both k event sees none
-  stops_silent k (suc j) (stop_here {ss = ss} event sees did) none = silent_at ss j
+  stops_silent : (k j : ℕ) {stop : ℕ} {groups : List (List Answer)} {olds news : List UnitState} → Stops units frame stop k groups olds news → seen units (k + j) frame ≡ [] → slice_index_or groups j [] ≡ []
+  stops_silent k zero (stop_here event is sees did) none = both k event sees none
+  stops_silent k (suc j) (stop_here {ss = ss} event is sees did) none = silent_at ss j
   stops_silent k zero (stop_passes unseen others) none = refl
   stops_silent k (suc j) (stop_passes unseen others) none = stops_silent (suc k) j others (further k j none)
   stops_silent k zero (stop_serves event sees did others) none = both k event sees none
@@ -190,5 +226,5 @@ module _ (units : ℕ) (frame : Frame) where
   pub each_is_round : {groups : List (List Answer)} {olds news : List UnitState} → length olds ≡ units → EachDid units frame 0 groups olds news → IsRoundOf units (round_of frame groups)
   each_is_round long each = record { one_each = each_length each ∙ long; unseen_silent = λ k none. each_silent 0 k each (subst (λ n. seen units n frame ≡ []) (omega arith) none) }
 
-  pub stops_is_round : {groups : List (List Answer)} {olds news : List UnitState} → length olds ≡ units → Stops units frame 0 groups olds news → IsRoundOf units (round_of frame groups)
+  pub stops_is_round : {stop : ℕ} {groups : List (List Answer)} {olds news : List UnitState} → length olds ≡ units → Stops units frame stop 0 groups olds news → IsRoundOf units (round_of frame groups)
   stops_is_round long stops = record { one_each = stops_length stops ∙ long; unseen_silent = λ k none. stops_silent 0 k stops (subst (λ n. seen units n frame ≡ []) (omega arith) none) }

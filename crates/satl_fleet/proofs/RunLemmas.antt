@@ -1,7 +1,7 @@
 -- The runs of units, which grow by a round.
 use Rattle.std.proofs.Common.{◌≡◌, append_assoc, refl, sym, ap, subst, arith, ◌∙◌, ℕ, zero, suc, ◌+◌, ◌<◌, max, List, [], ◌∷◌, ◌++◌, length}
 use Rattle.std.proofs.lemmas.List.{append-nil, length-append}
-use Rattle.std.specs.Prelude.{slice_index_or}
+use Rattle.std.specs.Prelude.{Option, slice_index_or}
 use Rattle.std.specs.List.{AllByRecursion}
 use Rattle.satl_io.specs.Causes.{RoseBy}
 use Rattle.satl_io.proofs.Counting.{RoseBy-more, RoseBy-none}
@@ -16,14 +16,15 @@ use Rattle.satl_step.specs.Runs.{KeepsDeepest, is_unplug, orders_behind, tally_o
 use Rattle.satl_direct.specs.Run.RunInPart.{one_event_more}
 use Rattle.satl_step.proofs.RunLemmas.{Counts, counts_more, orders_more, unplugs_one}
 use Rattle.satl_fleet.specs.Output.{NoAnswersBehind, Round, frames_of, group_of, groups_for}
-use Rattle.satl_fleet.specs.Rounds.{EachDid, Stops, round_of, silence}
+use Rattle.satl_fleet.specs.Rounds.{EachDid, IsCut, Stops, round_of, silence}
+use Rattle.satl_fleet.specs.Rounds.IsCut.{at_unit, behind_all}
 use Rattle.satl_fleet.specs.Rounds.EachDid.{none as no_unit, passes as unit_passes, serves as unit_serves}
 use Rattle.satl_fleet.specs.Rounds.Stops.{here as stop_here, passes as stop_passes, serves as stop_serves}
 use Rattle.satl_fleet.specs.Routing.{project, seen}
 use Rattle.satl_fleet.specs.Runs.{HasNoTask, HaveRun, HaveRunInPart, RanRounds, RanRoundsInPart, UnitCounted, UnitRan, UnitRanInPart, UnitStand, unit_stand_of}
 use Rattle.satl_fleet.specs.Runs.HaveRunInPart.{here as run_here, later as run_later}
 use Rattle.satl_fleet.specs.Units.{Did, DidInPart, UnitState, device_of}
-use Rattle.satl_fleet.proofs.RoundLemmas.{silent_at}
+use Rattle.satl_fleet.proofs.RoundLemmas.{group_at, silent_at}
 
 -- ---- one unit
 
@@ -102,11 +103,6 @@ module _ (units k : ℕ) (rounds : List Round) (round : Round) where
       ran_cut : DidInPart event s answers new → RanRoundsInPart units k (rounds ++ round ∷ []) first (unit_stand_of new)
       ran_cut did = subst (λ gs. UnitRanInPart first (project units k (frames_of (rounds ++ round ∷ []))) gs (unit_stand_of new)) (groups_one event answers sees here) (subst (λ es. UnitRanInPart first es (old_groups ++ answers ∷ []) (unit_stand_of new)) (events_one event sees) (ran_in_part first old_events old_groups s new event answers r did))
 
--- the group of a unit
-group_at : (before : List (List Answer)) (answers : List Answer) (behind : List (List Answer)) (k : ℕ) → length before ≡ k → slice_index_or (before ++ answers ∷ behind) k [] ≡ answers
-group_at [] answers behind k is = ap (λ n. slice_index_or (answers ∷ behind) n []) (sym is)
-group_at (g ∷ gs) answers behind k is = ap (λ n. slice_index_or (g ∷ (gs ++ answers ∷ behind)) n []) (sym is) ∙ group_at gs answers behind (length gs) refl
-
 -- the groups behind it, where those units are silent
 silent_behind : (before : List (List Answer)) (answers : List Answer) (ss : List UnitState) (j : ℕ) → length before < j → slice_index_or (before ++ answers ∷ silence ss) j [] ≡ []
 silent_behind before answers ss zero less = absurd (omega (arith, less))
@@ -139,18 +135,23 @@ module _ (units : ℕ) (rounds : List Round) (frame : Frame) (groups : List (Lis
   run_round k before {behind = g ∷ gs} (a ∷ starts) {olds = s ∷ ss} {news = w ∷ ws} is long run (unit_serves event sees did others) =
       (ran_on units k rounds whole (unit_stand_of a) s run.0 event g w sees (here_is before g gs k is long) did, run_round (suc k) (before ++ g ∷ []) starts (next_split before g gs is) (next_length before g k long) run.1 others)
 
-  pub run_round_part : (k : ℕ) (before : List (List Answer)) {behind : List (List Answer)} (starts : List UnitState) {olds news : List UnitState} → groups ≡ before ++ behind → length before ≡ k → HaveRun units k rounds starts olds → Stops units frame k behind olds news → HaveRunInPart units rounds whole k starts news
-  run_round_part k before [] is long run (stop_here event sees did) = absurd run
-  run_round_part k before {behind = g ∷ gs} (a ∷ starts) {olds = s ∷ ss} {news = w ∷ ws} is long run (stop_here event sees did) =
-      run_here event sees (none_behind before g ss k is long) (ran_cut units k rounds whole (unit_stand_of a) s run.0 event g w sees (here_is before g gs k is long) did) run.1
-  run_round_part k before [] is long run (stop_passes unseen others) = absurd run
-  run_round_part k before {behind = g ∷ gs} (a ∷ starts) {olds = s ∷ ss} is long run (stop_passes unseen others) =
-      run_later (ran_past units k rounds whole (unit_stand_of a) s run.0 unseen) (run_round_part (suc k) (before ++ g ∷ []) starts (next_split before g gs is) (next_length before g k long) run.1 others)
-  run_round_part k before [] is long run (stop_serves event sees did others) = absurd run
-  run_round_part k before {behind = g ∷ gs} (a ∷ starts) {olds = s ∷ ss} {news = w ∷ ws} is long run (stop_serves event sees did others) =
-      run_later (ran_on units k rounds whole (unit_stand_of a) s run.0 event g w sees (here_is before g gs k is long) did) (run_round_part (suc k) (before ++ g ∷ []) starts (next_split before g gs is) (next_length before g k long) run.1 others)
-  run_round_part k before {behind = []} (a ∷ starts) {olds = olds} {news = news} is long run each = elim each [ ]
-  run_round_part k before {behind = g ∷ gs} (a ∷ starts) {olds = []} {news = news} is long run each = absurd run
+  pub run_round_part : (stop k : ℕ) (before : List (List Answer)) {behind : List (List Answer)} (starts : List UnitState) {olds news : List UnitState} → groups ≡ before ++ behind → length before ≡ k → HaveRun units k rounds starts olds → Stops units frame stop k behind olds news → HaveRunInPart units rounds whole stop k starts news
+  run_round_part stop k before [] is long run (stop_here event at sees did) = absurd run
+  run_round_part stop k before {behind = g ∷ gs} (a ∷ starts) {olds = s ∷ ss} {news = w ∷ ws} is long run (stop_here event at sees did) =
+      run_here event at sees (none_behind before g ss k is long) (ran_cut units k rounds whole (unit_stand_of a) s run.0 event g w sees (here_is before g gs k is long) did) run.1
+  run_round_part stop k before [] is long run (stop_passes unseen others) = absurd run
+  run_round_part stop k before {behind = g ∷ gs} (a ∷ starts) {olds = s ∷ ss} is long run (stop_passes unseen others) =
+      run_later (ran_past units k rounds whole (unit_stand_of a) s run.0 unseen) (run_round_part stop (suc k) (before ++ g ∷ []) starts (next_split before g gs is) (next_length before g k long) run.1 others)
+  run_round_part stop k before [] is long run (stop_serves event sees did others) = absurd run
+  run_round_part stop k before {behind = g ∷ gs} (a ∷ starts) {olds = s ∷ ss} {news = w ∷ ws} is long run (stop_serves event sees did others) =
+      run_later (ran_on units k rounds whole (unit_stand_of a) s run.0 event g w sees (here_is before g gs k is long) did) (run_round_part stop (suc k) (before ++ g ∷ []) starts (next_split before g gs is) (next_length before g k long) run.1 others)
+  run_round_part stop k before {behind = []} (a ∷ starts) {olds = olds} {news = news} is long run each = elim each [ ]
+  run_round_part stop k before {behind = g ∷ gs} (a ∷ starts) {olds = []} {news = news} is long run each = absurd run
+
+-- a round that was cut, told of other units' states
+pub cut_so : {units : ℕ} {round : Round} {before after : Option (List ℕ)} {All All' : Type 0} {UpTo UpTo' : ℕ → Type 0} → (All → All') → ((stop : ℕ) → UpTo stop → UpTo' stop) → IsCut units round before after All UpTo → IsCut units round before after All' UpTo'
+cut_so all up_to (behind_all is breaks) = behind_all (all is) breaks
+cut_so all up_to (at_unit stop is breaks) = at_unit stop (up_to stop is) breaks
 
 -- no round
 pub run_none : (units k : ℕ) (ss : List UnitState) → AllByRecursion HasNoTask ss → HaveRun units k [] ss ss

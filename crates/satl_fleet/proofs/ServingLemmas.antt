@@ -82,11 +82,11 @@ module _ (units : ℕ) where
   are_served k rounds {olds = d ∷ ds} {mids = m ∷ ms} {ls = l ∷ ls} (x ∷ xs) (w ∷ ws) (more o os) each long run tied =
       (unit_served units k rounds d m w l x o tied.0 run.0, are_served (suc k) rounds xs ws os (omega (arith, each)) (omega (arith, long)) run.1 tied.1)
 
-  pub are_served_part : (k : ℕ) (rounds : List Round) (round : Round) {olds mids : List DriveState} {ls : List Layer} (ls' : List Layer) (news : List DriveState) → OpensTo olds ls mids → length ls ≡ length olds → length ls' ≡ length news → HaveRunInPart units rounds round k (unit_states ls mids) (unit_states ls' news) → AllByRecursion IsTiedUnit (unit_states ls' news) → AreServedInPart units rounds round k olds news
-  are_served_part k rounds round {olds = d ∷ ds} {mids = m ∷ ms} {ls = l ∷ ls} (x ∷ xs) (w ∷ ws) (more o os) each long (run_here event sees behind r others) tied =
-      served_here event sees behind (unit_served_part units k (rounds ++ round ∷ []) d m w l x o tied.0 r) (are_served (suc k) rounds xs ws os (omega (arith, each)) (omega (arith, long)) others tied.1)
-  are_served_part k rounds round {olds = d ∷ ds} {mids = m ∷ ms} {ls = l ∷ ls} (x ∷ xs) (w ∷ ws) (more o os) each long (run_later r others) tied =
-      served_later (unit_served units k (rounds ++ round ∷ []) d m w l x o tied.0 r) (are_served_part (suc k) rounds round xs ws os (omega (arith, each)) (omega (arith, long)) others tied.1)
-  are_served_part k rounds round ls' news rest each long run tied = elim run [ ]
-  are_served_part k rounds round [] news (more o os) each long run tied = elim run [ ]
-  are_served_part k rounds round (x ∷ xs) [] (more o os) each long run tied = elim run [ ]
+  pub are_served_part : (stop k : ℕ) (rounds : List Round) (round : Round) {olds mids : List DriveState} {ls : List Layer} (ls' : List Layer) (news : List DriveState) → OpensTo olds ls mids → length ls ≡ length olds → length ls' ≡ length news → HaveRunInPart units rounds round stop k (unit_states ls mids) (unit_states ls' news) → AllByRecursion IsTiedUnit (unit_states ls' news) → AreServedInPart units rounds round stop k olds news
+  are_served_part stop k rounds round {olds = d ∷ ds} {mids = m ∷ ms} {ls = l ∷ ls} (x ∷ xs) (w ∷ ws) (more o os) each long (run_here event at sees behind r others) tied =
+      served_here event at sees behind (unit_served_part units k (rounds ++ round ∷ []) d m w l x o tied.0 r) (are_served (suc k) rounds xs ws os (omega (arith, each)) (omega (arith, long)) others tied.1)
+  are_served_part stop k rounds round {olds = d ∷ ds} {mids = m ∷ ms} {ls = l ∷ ls} (x ∷ xs) (w ∷ ws) (more o os) each long (run_later r others) tied =
+      served_later (unit_served units k (rounds ++ round ∷ []) d m w l x o tied.0 r) (are_served_part stop (suc k) rounds round xs ws os (omega (arith, each)) (omega (arith, long)) others tied.1)
+  are_served_part stop k rounds round ls' news rest each long run tied = elim run [ ]
+  are_served_part stop k rounds round [] news (more o os) each long run tied = elim run [ ]
+  are_served_part stop k rounds round (x ∷ xs) [] (more o os) each long run tied = elim run [ ]

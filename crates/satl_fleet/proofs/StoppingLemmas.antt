@@ -1,5 +1,5 @@
 -- What a run of the units is, once it stops, from the magic on.
-use Rattle.std.proofs.Common.{◌≡◌, inl, inr, refl, sym, ap, subst, arith, ◌∙◌, ℕ, List, [], ◌∷◌}
+use Rattle.std.proofs.Common.{◌≡◌, inl, inr, refl, sym, ap, subst, arith, ◌∙◌, ℕ, ◌+◌, ◌≤◌, false, List, [], ◌∷◌}
 use Rattle.std.specs.Prelude.{Option}
 use Rattle.std.specs.List.{AllByRecursion}
 use Rattle.satl_base.specs.Limits.{input_limit}
@@ -18,15 +18,18 @@ use Rattle.satl_serve.specs.Runs.{ReadBefore}
 use Rattle.satl_serve.specs.Stopping.{Tells, TellsStop}
 use Rattle.satl_serve.specs.declared.telling.Form.TheVariants.{Frames}
 use Rattle.satl_serve.proofs.RunLemmas.{read_to}
+use Rattle.satl_step.specs.Runs.{calls_allowed, is_lost_behind_all}
 use Rattle.satl_step.specs.declared.frames_loop.Stop.{Stop}
 use Rattle.satl_step.specs.declared.frames_loop.Stop.TheVariants as stops
-use Rattle.satl_fleet.specs.Loop.{LoopState, ReachedEnd, Refused, StoppedInRound, StoppedSo}
+use Rattle.satl_fleet.specs.Loop.{LoopState, ReachedEnd, Refused, SoFar, StoppedInRound, StoppedSo}
 use Rattle.satl_fleet.specs.Output.{IsRoundOf, Round, frames_of, output, rounds_told}
+use Rattle.satl_fleet.specs.Rounds.{frame_calls}
 use Rattle.satl_fleet.specs.Runs.{HasNoTask}
 use Rattle.satl_fleet.specs.Serving.{Target}
 use Rattle.satl_fleet.specs.Stopping.{RanBefore, RanTo, RanWhole, Spot, StoppedInAnswers, StoppedInFault, StoppedInMagic}
 use Rattle.satl_serve.specs.declared.serving.ServeFault.{ServeFault}
 use Rattle.satl_serve.specs.declared.serving.ServeFault.TheVariants as faults
+use Rattle.satl_fleet.proofs.CallsLemmas.{due_at_least}
 use Rattle.satl_fleet.proofs.RunLemmas.{run_none}
 
 -- where a scene stands that was reached behind what was written
@@ -43,6 +46,10 @@ module _ (units : ℕ) (written : Option (List ℕ)) (a : LoopState) (begins : B
   printed : (rounds : List Round) (now : Option (List ℕ)) → Wrote a.stage.written now (rounds_told units rounds) → Wrote written now (output units rounds)
   printed rounds now wrote = Wrote-more begins.magic wrote
 
+  -- without the turns of the tasks that are left
+  fewest : {b : LoopState} {rounds : List Round} → SoFar units a b rounds → b.calls ≤ a.calls + calls_allowed (frame_calls units) (frames_of rounds) false
+  fewest {b} {rounds} so_far = omega (arith, so_far.calls, due_at_least (is_lost_behind_all (frames_of rounds) false) b.stage.target b.calls)
+
   pub whole : (b : LoopState) → ReachedEnd units a b → RanWhole input_limit units (place_of written a) (place_of b.stage.written b)
   whole b e =
       let s = e.so_far in
@@ -52,7 +59,7 @@ module _ (units : ℕ) (written : Option (List ℕ)) (a : LoopState) (begins : B
         are_rounds = s.are_rounds;
         told = record { earlier = e.earlier; place = read.0; ends = e.ends; read = subst (λ fs. ReadTo input_limit One read.0 a.left b.left fs) (sym e.ends) read.1; wrote = printed e.rounds b.stage.written s.wrote };
         run = s.run;
-        calls = omega (arith, s.given.calls);
+        calls = fewest s;
       }
 
   module _ (b : LoopState) where
@@ -73,7 +80,7 @@ module _ (units : ℕ) (written : Option (List ℕ)) (a : LoopState) (begins : B
       are_rounds = r.going.so_far.are_rounds;
       told = record { read = read_before why r; wrote = Wrote-more (printed r.going.rounds b.stage.written r.going.so_far.wrote) wrote };
       run = r.going.so_far.run;
-      calls = omega (arith, r.going.so_far.given.calls);
+      calls = fewest r.going.so_far;
     }
 
     broken : (reason : Reason) (offset : ℕ) (last : Option (List ℕ)) → Refused units (Bad reason offset) a b → WrotePart b.stage.written last (fault_bytes reason offset) → StoppedInFault input_limit units (place_of written a) (place_of last b)
@@ -89,7 +96,7 @@ module _ (units : ℕ) (written : Option (List ℕ)) (a : LoopState) (begins : B
         part = part;
       };
       run = r.going.so_far.run;
-      calls = omega (arith, r.going.so_far.given.calls);
+      calls = fewest r.going.so_far;
     }
 
     refused : (why : FrameFault) (last : Option (List ℕ)) (fault : ServeFault) → Refused units why a b → Tells Frames why b.stage.written last fault → RanTo input_limit units (place_of written a) (place_of last b) fault
@@ -113,8 +120,8 @@ module _ (units : ℕ) (written : Option (List ℕ)) (a : LoopState) (begins : B
         wrote = printed t.going.rounds t.mid.stage.written t.going.so_far.wrote;
         part = t.part;
       };
-      run = t.run;
-      calls = omega (arith, t.given.calls);
+      cut = t.cut;
+      calls = t.calls;
     }
 
     -- where frames are carried out no further

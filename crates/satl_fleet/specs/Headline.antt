@@ -1,5 +1,5 @@
 -- What holds of the input, the output and the drives of a target, by how serving ended (profile).
-use Rattle.std.specs.Prelude.{◌≡◌, ◌⊎◌, ℕ, ◌+◌, ◌≤◌, List, [], ◌∷◌, ◌++◌, length, Option}
+use Rattle.std.specs.Prelude.{◌≡◌, ◌⊎◌, ℕ, ◌+◌, ◌≤◌, false, List, [], ◌∷◌, ◌++◌, length, Option}
 use Rattle.std.specs.List.{AllByRecursion, AllZip}
 use Rattle.satl_io.specs.Known.{Wrote, WrotePart}
 use Rattle.satl_frame.specs.declared.frames.Frame.{Frame}
@@ -16,17 +16,20 @@ use Rattle.satl_frame.specs.Reading.{Reading}
 use Rattle.satl_fleet.specs.Moments.{FleetMoment, Streams, Terms, streams_at, terms}
 use Rattle.satl_fleet.specs.Opening.{IsLeftAlone}
 use Rattle.satl_fleet.specs.Output.{IsRoundOf, Round, frames_of, output, round_told}
-use Rattle.satl_fleet.specs.Rounds.{calls_for}
+use Rattle.satl_fleet.specs.Rounds.{IsCut, frame_calls}
 use Rattle.satl_fleet.specs.Runs.{AreServed, AreServedInPart}
+use Rattle.satl_step.specs.Runs.{calls_allowed}
 use Rattle.satl_serve.specs.Forms.{told_of}
 use Rattle.satl_serve.specs.Runs.{ReadBefore}
 use Rattle.satl_serve.specs.declared.telling.Form.TheVariants.{Frames}
 use Rattle.satl_serve.specs.declared.serving.ServeFault.{ServeFault}
 use Rattle.satl_serve.specs.declared.serving.ServeFault.TheVariants as faults
 
--- the drives were called as often at most as there are drives, for their identities, and as these frames allow (profile)
+-- the drives were called as often at most as there are drives, for their identities, and as these frames allow: those between an
+-- UNPLUG and the next POWER, which go to all drives, add none (profile)
 abbrev pub HasFewCalls : List Frame → FleetMoment → FleetMoment → Type 0
-HasFewCalls frames before after = after.calls ≤ before.calls + length before.drives + calls_for (length before.drives) frames
+HasFewCalls frames before after =
+    after.calls ≤ before.calls + length before.drives + calls_allowed (frame_calls (length before.drives)) frames false
 
 -- ---- what was read and written
 
@@ -95,15 +98,16 @@ pub record BrokeInMagic (before after : FleetMoment) : Type 0 where
   pub served : AreServed (length before.drives) 0 [] before.drives after.drives
   pub calls : HasFewCalls [] before after
 
--- rounds were served, and a write failed in what is due to one more: units from the first on did it, one of them perhaps in
--- part, and those behind that one leave it out and answer nothing in it (profile)
+-- rounds were served, and a write failed in what is due to one more: in the answers of a unit, which did it in whole or in
+-- part, and those behind that one leave it out and answer nothing in it; or behind the answers of all (profile)
 pub record BrokeInRound (limit : ℕ) (before after : FleetMoment) : Type 0 where
   pub rounds : List Round
   pub round : Round
   pub are_rounds : AllByRecursion (IsRoundOf (length before.drives)) (rounds ++ round ∷ [])
   pub breaks : BreaksInRound (terms limit (length before.drives)) (streams_at before) (streams_at after) rounds round
-  pub served : AreServed (length before.drives) 0 (rounds ++ round ∷ []) before.drives after.drives
-      ⊎ AreServedInPart (length before.drives) rounds round 0 before.drives after.drives
+  pub cut : IsCut (length before.drives) round breaks.behind after.sink.written
+      (AreServed (length before.drives) 0 (rounds ++ round ∷ []) before.drives after.drives)
+      (λ stop. AreServedInPart (length before.drives) rounds round stop 0 before.drives after.drives)
   pub calls : HasFewCalls (frames_of rounds ++ round.frame ∷ []) before after
 
 -- rounds were served, and a write failed in what tells that what follows is refused (profile)

@@ -1,6 +1,6 @@
 -- One frame over the units of a target (profile).
-use Rattle.std.specs.Prelude.{◌≡◌, ◌⊎◌, ℕ, zero, suc, ◌+◌, ◌*◌, ◌≤◌, if◌then◌else◌}
-use Rattle.std.specs.Prelude.{List, [], ◌∷◌, length, map, Option, Some, IfSome, slice_get, slice_set, sum_by}
+use Rattle.std.specs.Prelude.{◌≡◌, ℕ, zero, suc, ◌+◌, ◌*◌, ◌≤◌, if◌then◌else◌}
+use Rattle.std.specs.Prelude.{List, [], ◌∷◌, ◌++◌, length, map, take, Option, Some, IfSome, slice_get, slice_index_or, slice_set}
 use Rattle.std.specs.List.{AllByRecursion}
 use Rattle.satl_io.specs.Known.{Wrote, WrotePart}
 use Rattle.satl_frame.specs.declared.frames.Frame.{Frame}
@@ -9,7 +9,7 @@ use Rattle.satl_frame.specs.Output.{Answer}
 use Rattle.satl_base.specs.Limits.{IsExpectable}
 use Rattle.satl_core.specs.Turning.{off_calls, turn_calls}
 use Rattle.satl_step.specs.Events.{CallsNone}
-use Rattle.satl_fleet.specs.Output.{Round, round_told, told_from, told_under}
+use Rattle.satl_fleet.specs.Output.{Round, end_told, round_told, target_told, told_from, told_under}
 use Rattle.satl_fleet.specs.Routing.{is_for_all, is_report, seen}
 use Rattle.satl_fleet.specs.Serving.{Target}
 use Rattle.satl_fleet.specs.Units.{Did, DidInPart, UnitState, device_of}
@@ -57,13 +57,35 @@ pub data DidTo (event : Frame) : ℕ → List (List Answer) → List UnitState �
       → Did event old answers new → DidTo event count groups olds news
       → DidTo event (suc count) (answers ∷ groups) (old ∷ olds) (new ∷ news)
 
--- units from the first on did it, the next one in whole or in part, and those behind it stay and answer nothing (profile)
-pub data DidToInPart (event : Frame) : List (List Answer) → List UnitState → List UnitState → Type 0 where
+-- so many units from the first on did it, the next one in whole or in part, and those behind it stay and answer nothing
+-- (profile)
+pub data DidToInPart (event : Frame) : ℕ → List (List Answer) → List UnitState → List UnitState → Type 0 where
   here : {ss : List UnitState} {old new : UnitState} {answers : List Answer}
-      → DidInPart event old answers new → DidToInPart event (answers ∷ silence ss) (old ∷ ss) (new ∷ ss)
-  later : {groups : List (List Answer)} {olds news : List UnitState} {old new : UnitState} {answers : List Answer}
-      → Did event old answers new → DidToInPart event groups olds news
-      → DidToInPart event (answers ∷ groups) (old ∷ olds) (new ∷ news)
+      → DidInPart event old answers new → DidToInPart event zero (answers ∷ silence ss) (old ∷ ss) (new ∷ ss)
+  later : {count : ℕ} {groups : List (List Answer)} {olds news : List UnitState} {old new : UnitState} {answers : List Answer}
+      → Did event old answers new → DidToInPart event count groups olds news
+      → DidToInPart event (suc count) (answers ∷ groups) (old ∷ olds) (new ∷ news)
+
+-- ---- where the output breaks off in a round
+
+-- the answers of the units before this one were written whole, and of its own a front (profile)
+pub record BreaksAt (stop : ℕ) (groups : List (List Answer)) (before after : Option (List ℕ)) : Type 0 where
+  pub behind : Option (List ℕ)
+  pub wrote : Wrote before behind (told_from 0 (take stop groups))
+  pub part : WrotePart behind after (told_under stop (slice_index_or groups stop []))
+
+-- the answers of all units were written whole, and of what the target itself tells a front (profile)
+pub record BreaksBehindAll (units : ℕ) (round : Round) (before after : Option (List ℕ)) : Type 0 where
+  pub behind : Option (List ℕ)
+  pub wrote : Wrote before behind (told_from 0 round.groups)
+  pub part : WrotePart behind after (target_told units round.frame ++ end_told round.frame)
+
+-- a round was cut: behind all units, or at the answers of one of them; so much the units did then (profile)
+pub data IsCut (units : ℕ) (round : Round) (before after : Option (List ℕ)) (All : Type 0) (UpTo : ℕ → Type 0) : Type 0 where
+  behind_all : All → BreaksBehindAll units round before after → IsCut units round before after All UpTo
+  at_unit : (stop : ℕ) → UpTo stop → BreaksAt stop round.groups before after → IsCut units round before after All UpTo
+
+-- ---- all units, and one event
 
 -- all units did an event, and told it (profile)
 pub record AllDid (event : Frame) (before after : Stage) : Type 0 where
@@ -71,10 +93,12 @@ pub record AllDid (event : Frame) (before after : Stage) : Type 0 where
   pub did : DidTo event (length before.target.units) groups before.target.units after.target.units
   pub wrote : Wrote before.written after.written (told_from 0 groups)
 
--- units did it up to one that did it in whole or in part, and it was told in part (profile)
+-- units did it up to one that did it in whole or in part, and whose answers were told in part (profile)
 pub record AllDidInPart (event : Frame) (before after : Stage) : Type 0 where
+  pub stop : ℕ
   pub groups : List (List Answer)
-  pub did : DidToInPart event groups before.target.units after.target.units
+  pub did : DidToInPart event stop groups before.target.units after.target.units
+  pub breaks : BreaksAt stop groups before.written after.written
   pub part : WrotePart before.written after.written (told_from 0 groups)
 
 -- ---- a frame
@@ -90,18 +114,18 @@ pub data EachDid (units : ℕ) (frame : Frame) : ℕ → List (List Answer) → 
       → seen units k frame ≡ event ∷ [] → Did event old answers new → EachDid units frame (suc k) groups olds news
       → EachDid units frame k (answers ∷ groups) (old ∷ olds) (new ∷ news)
 
--- the same up to a unit that did it in whole or in part; those behind it stay and answer nothing (profile)
-pub data Stops (units : ℕ) (frame : Frame) : ℕ → List (List Answer) → List UnitState → List UnitState → Type 0 where
+-- the same up to one unit, which did it in whole or in part; those behind it stay and answer nothing (profile)
+pub data Stops (units : ℕ) (frame : Frame) (stop : ℕ) : ℕ → List (List Answer) → List UnitState → List UnitState → Type 0 where
   here : {k : ℕ} {ss : List UnitState} {old new : UnitState} {answers : List Answer} (event : Frame)
-      → seen units k frame ≡ event ∷ [] → DidInPart event old answers new
-      → Stops units frame k (answers ∷ silence ss) (old ∷ ss) (new ∷ ss)
+      → k ≡ stop → seen units k frame ≡ event ∷ [] → DidInPart event old answers new
+      → Stops units frame stop k (answers ∷ silence ss) (old ∷ ss) (new ∷ ss)
   passes : {k : ℕ} {groups : List (List Answer)} {olds news : List UnitState} {old : UnitState}
-      → seen units k frame ≡ [] → Stops units frame (suc k) groups olds news
-      → Stops units frame k ([] ∷ groups) (old ∷ olds) (old ∷ news)
+      → seen units k frame ≡ [] → Stops units frame stop (suc k) groups olds news
+      → Stops units frame stop k ([] ∷ groups) (old ∷ olds) (old ∷ news)
   serves : {k : ℕ} {groups : List (List Answer)} {olds news : List UnitState} {old new : UnitState} {answers : List Answer}
       (event : Frame)
-      → seen units k frame ≡ event ∷ [] → Did event old answers new → Stops units frame (suc k) groups olds news
-      → Stops units frame k (answers ∷ groups) (old ∷ olds) (new ∷ news)
+      → seen units k frame ≡ event ∷ [] → Did event old answers new → Stops units frame stop (suc k) groups olds news
+      → Stops units frame stop k (answers ∷ groups) (old ∷ olds) (new ∷ news)
 
 abbrev pub round_of : Frame → List (List Answer) → Round
 round_of frame groups = record { frame = frame; groups = groups }
@@ -112,11 +136,13 @@ pub record RoundDone (units : ℕ) (frame : Frame) (before after : Stage) : Type
   pub each : EachDid units frame 0 groups before.target.units after.target.units
   pub wrote : Wrote before.written after.written (round_told units (round_of frame groups))
 
--- a frame was served by all units, or up to one that did it in whole or in part, and a front of what is due was told (profile)
+-- a frame was served by all units, or up to one that did it in whole or in part, and a front of what is due was told: up to
+-- that unit's answers (profile)
 pub record RoundInPart (units : ℕ) (frame : Frame) (before after : Stage) : Type 0 where
   pub groups : List (List Answer)
-  pub each : EachDid units frame 0 groups before.target.units after.target.units
-      ⊎ Stops units frame 0 groups before.target.units after.target.units
+  pub cut : IsCut units (round_of frame groups) before.written after.written
+      (EachDid units frame 0 groups before.target.units after.target.units)
+      (λ stop. Stops units frame stop 0 groups before.target.units after.target.units)
   pub part : WrotePart before.written after.written (round_told units (round_of frame groups))
 
 -- the pages of a frame that can be routed hold all of its data-out (profile)
@@ -129,10 +155,6 @@ abbrev pub frame_calls : ℕ → Frame → ℕ
 frame_calls units (frames.Request r) = if is_report r then 0 else turn_calls + off_calls
 frame_calls units (frames.Manage m) = if is_for_all m then units * off_calls else off_calls
 frame_calls units _ = 0
-
--- the most calls of drives that frames take (profile)
-abbrev pub calls_for : ℕ → List Frame → ℕ
-calls_for units fs = sum_by (frame_calls units) fs
 
 -- the unit of this number does not call its drive in an event (profile)
 abbrev pub CallsNoneAt : ℕ → Frame → List UnitState → Type 0

@@ -74,17 +74,18 @@ pub record UnitServed (Run : UnitStand → UnitStand → Type 0) (old new : Driv
 abbrev pub AreServed : ℕ → ℕ → List Round → List DriveState → List DriveState → Type 0
 AreServed units k rounds olds news = EachAt (λ n old new. UnitServed (RanRounds units n rounds) old new) k olds news
 
--- units from this one on were served in rounds and in one more, up to one that sees the last frame and was served in it in
--- whole or in part; those behind that one leave the last round out and answer nothing in it (profile)
-pub data AreServedInPart (units : ℕ) (rounds : List Round) (round : Round)
+-- units from this one on were served in rounds and in one more, up to the one of this number, which sees the last frame and
+-- was served in it in whole or in part; those behind it leave the last round out and answer nothing in it (profile)
+pub data AreServedInPart (units : ℕ) (rounds : List Round) (round : Round) (stop : ℕ)
     : ℕ → List DriveState → List DriveState → Type 0 where
   here : {k : ℕ} {old new : DriveState} {olds news : List DriveState} (event : Frame)
-      → seen units k round.frame ≡ event ∷ [] → NoAnswersBehind k round
+      → k ≡ stop → seen units k round.frame ≡ event ∷ [] → NoAnswersBehind k round
       → UnitServed (RanRoundsInPart units k (rounds ++ round ∷ [])) old new
-      → AreServed units (suc k) rounds olds news → AreServedInPart units rounds round k (old ∷ olds) (new ∷ news)
+      → AreServed units (suc k) rounds olds news → AreServedInPart units rounds round stop k (old ∷ olds) (new ∷ news)
   later : {k : ℕ} {old new : DriveState} {olds news : List DriveState}
       → UnitServed (RanRounds units k (rounds ++ round ∷ [])) old new
-      → AreServedInPart units rounds round (suc k) olds news → AreServedInPart units rounds round k (old ∷ olds) (new ∷ news)
+      → AreServedInPart units rounds round stop (suc k) olds news
+      → AreServedInPart units rounds round stop k (old ∷ olds) (new ∷ news)
 
 -- ---- so far
 
@@ -93,16 +94,18 @@ abbrev pub HaveRun : ℕ → ℕ → List Round → List UnitState → List Unit
 HaveRun units k rounds starts ss =
     EachAt (λ n a s. RanRounds units n rounds (unit_stand_of a) (unit_stand_of s)) k starts ss
 
--- the same, and in one round more, up to a unit that sees its frame and did it in whole or in part; those behind that one
--- answer nothing in it (profile)
-pub data HaveRunInPart (units : ℕ) (rounds : List Round) (round : Round) : ℕ → List UnitState → List UnitState → Type 0 where
+-- the same, and in one round more, up to the unit of this number, which sees its frame and did it in whole or in part; those
+-- behind it answer nothing in it (profile)
+pub data HaveRunInPart (units : ℕ) (rounds : List Round) (round : Round) (stop : ℕ)
+    : ℕ → List UnitState → List UnitState → Type 0 where
   here : {k : ℕ} {a s : UnitState} {starts ss : List UnitState} (event : Frame)
-      → seen units k round.frame ≡ event ∷ [] → NoAnswersBehind k round
+      → k ≡ stop → seen units k round.frame ≡ event ∷ [] → NoAnswersBehind k round
       → RanRoundsInPart units k (rounds ++ round ∷ []) (unit_stand_of a) (unit_stand_of s)
-      → HaveRun units (suc k) rounds starts ss → HaveRunInPart units rounds round k (a ∷ starts) (s ∷ ss)
+      → HaveRun units (suc k) rounds starts ss → HaveRunInPart units rounds round stop k (a ∷ starts) (s ∷ ss)
   later : {k : ℕ} {a s : UnitState} {starts ss : List UnitState}
       → RanRounds units k (rounds ++ round ∷ []) (unit_stand_of a) (unit_stand_of s)
-      → HaveRunInPart units rounds round (suc k) starts ss → HaveRunInPart units rounds round k (a ∷ starts) (s ∷ ss)
+      → HaveRunInPart units rounds round stop (suc k) starts ss
+      → HaveRunInPart units rounds round stop k (a ∷ starts) (s ∷ ss)
 
 -- a unit has no task, and its deepest queue is what its drive has at least (profile)
 pub record HasNoTask (s : UnitState) : Type 0 where

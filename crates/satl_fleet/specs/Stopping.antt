@@ -1,5 +1,5 @@
 -- Why serving a target stops (profile).
-use Rattle.std.specs.Prelude.{◌⊎◌, ℕ, ◌+◌, ◌≤◌, List, [], ◌∷◌, ◌++◌, Option}
+use Rattle.std.specs.Prelude.{◌⊎◌, ℕ, ◌+◌, ◌≤◌, false, List, [], ◌∷◌, ◌++◌, Option}
 use Rattle.std.specs.List.{AllByRecursion}
 use Rattle.satl_io.specs.Causes.{Rose}
 use Rattle.satl_frame.specs.declared.frames.FrameFault.{FrameFault}
@@ -9,8 +9,9 @@ use Rattle.satl_fleet.specs.Headline.{BreaksInFault, BreaksInMagic, BreaksInRoun
 use Rattle.satl_fleet.specs.Moments.{FleetMoment, Streams, terms}
 use Rattle.satl_fleet.specs.Opening.{IsCauseOfOne}
 use Rattle.satl_fleet.specs.Output.{IsRoundOf, Round, frames_of}
-use Rattle.satl_fleet.specs.Rounds.{Stage, calls_for}
+use Rattle.satl_fleet.specs.Rounds.{IsCut, Stage, frame_calls}
 use Rattle.satl_fleet.specs.Runs.{HaveRun, HaveRunInPart}
+use Rattle.satl_step.specs.Runs.{calls_allowed}
 use Rattle.satl_serve.specs.declared.serving.ServeFault.{ServeFault}
 use Rattle.satl_serve.specs.declared.serving.ServeFault.TheVariants as faults
 
@@ -39,7 +40,7 @@ streams_of s = record { left = s.left; written = s.stage.written }
 
 -- what a run leaves at its end: how often the drives were called (profile)
 abbrev pub HasFewCallsOn : ℕ → List Frame → Spot → Spot → Type 0
-HasFewCallsOn units fs before after = after.calls ≤ before.calls + calls_for units fs
+HasFewCallsOn units fs before after = after.calls ≤ before.calls + calls_allowed (frame_calls units) fs false
 
 -- an input was read up to END and told whole, and its frames were carried out (profile)
 pub record RanWhole (limit units : ℕ) (before after : Spot) : Type 0 where
@@ -69,8 +70,9 @@ pub record StoppedInAnswers (limit units : ℕ) (before after : Spot) : Type 0 w
   pub round : Round
   pub are_rounds : AllByRecursion (IsRoundOf units) (rounds ++ round ∷ [])
   pub breaks : BreaksInRound (terms limit units) (streams_of before) (streams_of after) rounds round
-  pub run : HaveRun units 0 (rounds ++ round ∷ []) before.stage.target.units after.stage.target.units
-      ⊎ HaveRunInPart units rounds round 0 before.stage.target.units after.stage.target.units
+  pub cut : IsCut units round breaks.behind after.stage.written
+      (HaveRun units 0 (rounds ++ round ∷ []) before.stage.target.units after.stage.target.units)
+      (λ stop. HaveRunInPart units rounds round stop 0 before.stage.target.units after.stage.target.units)
   pub calls : HasFewCallsOn units (frames_of rounds ++ round.frame ∷ []) before after
 
 -- a write failed in what tells a refusal (profile)

@@ -1,5 +1,5 @@
 -- What is found of a record, and how it is told (profile).
-use Rattle.std.specs.Prelude.{◌≡◌, ◌⊎◌, ℕ, List, [], ◌∷◌, Result, Ok, Err, codes, decimal}
+use Rattle.std.specs.Prelude.{◌≡◌, ◌≢◌, ◌⊎◌, ℕ, List, [], ◌∷◌, Result, Ok, Err, codes, decimal}
 use Rattle.std.specs.declared.option.Option.{Option}
 use Rattle.satl_io.specs.Causes.{Rose}
 use Rattle.satl_io.specs.Known.{Wrote, WrotePart}
@@ -51,7 +51,7 @@ RecordEnds identify left left' written written' (Ok verdict) =
 RecordEnds identify left left' written written' (Err faults.BadInput) = (reason : Reason) × (offset : ℕ)
     × Finds identify left left' (Err (audits.BadInput reason offset)) × Wrote written written' (fault_line reason offset)
 RecordEnds identify left left' written written' (Err faults.Write) = (found : Result Verdict AuditFault)
-    × Finds identify left left' found × WrotePart written written' (found_line found)
+    × (found ≢ Err audits.NoMemory) × Finds identify left left' found × WrotePart written written' (found_line found)
 RecordEnds identify left left' written written' (Err faults.NoRecord) =
     IsServed identify × IsNoRecord left × (written' ≡ written)
 RecordEnds identify left left' written written' (Err faults.Read) = IsServed identify × (written' ≡ written)

@@ -23,7 +23,7 @@ use Rattle.satl_direct.specs.Senses.{link_lost}
 use Rattle.satl_direct.specs.Turn.{OneEnds, Turn}
 use Rattle.satl_direct.specs.Turn.Turn.{idle, ends, loses, ends_and_loses}
 use Rattle.satl_step.specs.Laws.{AllowsNoneUnplugged}
-use Rattle.satl_step.specs.Runs.{calls_allowed, is_lost_behind, is_lost_behind_all}
+use Rattle.satl_step.specs.Runs.{calls_allowed, calls_of, is_lost_behind, is_lost_behind_all}
 
 -- ---- steps
 
@@ -102,13 +102,13 @@ stays_lost : (event : Frame) → event ≢ frames.Bench events.Power → is_lost
 stays_lost (frames.Bench events.Power) other = absurd (other refl)
 stays_lost _ other = refl
 
-lost_allows_none : (behind : List Frame) → AllByRecursion (λ event. event ≢ frames.Bench events.Power) behind → calls_allowed behind true ≡ 0
+lost_allows_none : (behind : List Frame) → AllByRecursion (λ event. event ≢ frames.Bench events.Power) behind → calls_allowed calls_of behind true ≡ 0
 lost_allows_none [] others = refl
-lost_allows_none (event ∷ behind) others = let later = ap (calls_allowed behind) (stays_lost event others.0) in omega (arith, later, lost_allows_none behind others.1)
+lost_allows_none (event ∷ behind) others = let later = ap (calls_allowed calls_of behind) (stays_lost event others.0) in omega (arith, later, lost_allows_none behind others.1)
 
 pub unplugged_allows_none : AllowsNoneUnplugged
 unplugged_allows_none = λ behind lost others. by lost behind others
   where
-    by : (lost : Bool) (behind : List Frame) → AllByRecursion (λ event. event ≢ frames.Bench events.Power) behind → calls_allowed (frames.Bench events.Unplug ∷ behind) lost ≡ 0
+    by : (lost : Bool) (behind : List Frame) → AllByRecursion (λ event. event ≢ frames.Bench events.Power) behind → calls_allowed calls_of (frames.Bench events.Unplug ∷ behind) lost ≡ 0
     by true behind others = omega (arith, lost_allows_none behind others)
     by false behind others = omega (arith, lost_allows_none behind others)

@@ -81,9 +81,9 @@ pub covers_more : (a b c : Stand) → KeepsDeepest a.tally b.tally → KeepsDeep
 covers_more a b c p q = record { rises = omega (arith, p.rises, q.rises); covers = λ deep. q.covers (p.covers deep) }
 
 -- events allow the calls of one more
-allowed_push : (events : List Frame) (event : Frame) (lost : Bool) → calls_allowed (events ++ event ∷ []) lost ≡ calls_allowed events lost + (if is_lost_behind_all events lost then 0 else calls_of event)
-allowed_push [] event lost = omega arith
-allowed_push (e ∷ events) event lost = omega (arith, allowed_push events event (is_lost_behind e lost))
+pub allowed_push : (most : Frame → ℕ) (events : List Frame) (event : Frame) (lost : Bool) → calls_allowed most (events ++ event ∷ []) lost ≡ calls_allowed most events lost + (if is_lost_behind_all events lost then 0 else most event)
+allowed_push most [] event lost = omega arith
+allowed_push most (e ∷ events) event lost = omega (arith, allowed_push most events event (is_lost_behind e lost))
 
 -- no call is left where no task is
 idle_leaves_none : (lost : Bool) (s : Device) → s.tasks ≡ [] → calls_left lost s ≡ 0
@@ -91,7 +91,7 @@ idle_leaves_none true s idle = refl
 idle_leaves_none false s idle = ap (λ l. turn_calls * length l) idle
 
 -- POWER leaves no task
-powered_idle : (s new : Device) (answers : List Answer) (deep : ℕ) → Does (frames.Bench events.Power) s answers new deep → new.tasks ≡ []
+pub powered_idle : (s new : Device) (answers : List Answer) (deep : ℕ) → Does (frames.Bench events.Power) s answers new deep → new.tasks ≡ []
 powered_idle s new answers deep d = ap (λ (x : Device). x.tasks) d.2.quiet_after.stays ∙ ap (λ (x : Device). x.tasks) d.2.step.stays
 
 -- no task is left behind POWER, which nothing can cut short
@@ -131,7 +131,7 @@ counted_more events losses before a b event whole given known counted is does ta
       few_calls =
           let one = calls_more (is_lost_behind_all events before.device.down) whole a b _ known (no_task_left whole a b given does) x counted.few_calls in
           let left = ap (λ c. calls_left c b.device) (lost_push events whole before.device.down) in
-          omega (arith, one, left, allowed_push events whole before.device.down);
+          omega (arith, one, left, allowed_push calls_of events whole before.device.down);
       queue = covers_more before a b counted.queue x.queue;
     }
 

@@ -81,10 +81,12 @@ abbrev pub is_lost_behind_all : List Frame → Bool → Bool
 is_lost_behind_all [] before = before
 is_lost_behind_all (event ∷ events) before = is_lost_behind_all events (is_lost_behind event before)
 
--- the most calls of a drive that events take in sum: those between an UNPLUG and the next POWER add none (profile)
-abbrev pub calls_allowed : List Frame → Bool → ℕ
-calls_allowed [] lost = 0
-calls_allowed (event ∷ events) lost = (if lost then 0 else calls_of event) + calls_allowed events (is_lost_behind event lost)
+-- the most calls of drives that events take in sum, of so many each: those between an UNPLUG and the next POWER add none
+-- (profile)
+abbrev pub calls_allowed : (Frame → ℕ) → List Frame → Bool → ℕ
+calls_allowed most [] lost = 0
+calls_allowed most (event ∷ events) lost =
+    (if lost then 0 else most event) + calls_allowed most events (is_lost_behind event lost)
 
 -- the most calls that the turns of the tasks take that are left: none where the link is known to be lost (profile)
 abbrev pub calls_left : Bool → Device → ℕ
@@ -124,7 +126,7 @@ pub record AreCounted (events : List Frame) (losses : ℕ) (before after : Stand
   pub few_unplugs : after.tally.unplugs ≤ before.tally.unplugs + unplugs_in events
   pub orders : after.tally.orders ≡ orders_behind_all events before.tally.orders
   pub few_calls : after.tally.calls + calls_left (is_lost_behind_all events before.device.down) after.device
-      ≤ before.tally.calls + calls_allowed events before.device.down
+      ≤ before.tally.calls + calls_allowed calls_of events before.device.down
   pub queue : KeepsDeepest before.tally after.tally
 
 -- events were carried out one after the other, and were counted: a group of answers for each (profile)

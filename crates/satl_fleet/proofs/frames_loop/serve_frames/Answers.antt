@@ -1,7 +1,7 @@
 use Rattle.std.proofs.Common.{◌≡◌, ap, arith, map, refl, subst, sym, vec_len, ◌∙◌}
 use Rattle.satl_frame.specs.Reading.{Reading}
 use Rattle.satl_fleet.specs.Loop.{loop_state}
-use Rattle.satl_fleet.specs.Rounds.{RoundDone, RoundInPart, frame_calls, stage}
+use Rattle.satl_fleet.specs.Rounds.{NoneCalls, RoundDone, RoundInPart, frame_calls, stage}
 use Rattle.satl_fleet.specs.Serving.{target}
 use Rattle.satl_fleet.specs.Units.{unit_states}
 use Rattle.satl_step.proofs.LoopLemmas.{nearer}
@@ -35,22 +35,25 @@ pub returns-in-Err-serve_frame-clause-stopped : goal.returns-in-Err-serve_frame-
 returns-in-Err-serve_frame-clause-stopped g c =
     let pages : c.frames.pool.free ≡ 4096 = omega (arith, c.frames.invariant.number, c.frames.invariant.all_in) in
     let allowed = ap (λ n. frame_calls n c.in-Ok.frame) c.frames.invariant.units in
+    let uncalled = subst (λ n. NoneCalls n c.in-Ok.frame (target g.D.Drive.state c.frames.units c.frames.drives).units → c.serve_frame.new.steps ≡ c.frames.steps) c.frames.invariant.units c.serve_frame.ensures.uncalled in
     let has = c.frames.invariant.serve.has in
     let long = length_states g.D.Drive.state c.frames.units.items c.frames.drives.items (omega (arith, has.same, c.frames.units.ok.0, c.frames.drives.ok.0)) in
-    part_more (vec_len c.args.units.now) (loop_state c.args.reader.now (g.S.Source.left c.args.source.now) (stage (target g.D.Drive.state c.args.units.now c.args.drives.now) (g.K.Sink.written c.args.sink.now)) c.args.steps.now) (loop_state c.frames.reader (g.S.Source.left c.frames.source) (stage (target g.D.Drive.state c.frames.units c.frames.drives) (g.K.Sink.written c.frames.sink)) c.frames.steps) (loop_state c.next.new.self (g.S.Source.left c.next.new.source) (stage (target g.D.Drive.state c.serve_frame.new.units c.serve_frame.new.drives) (g.K.Sink.written c.serve_frame.new.sink)) c.serve_frame.new.steps) c.frames.pool.free c.in-Ok.frame c.frames.invariant.going c.in-Ok.ensures.gave (is_whole c.in-Ok.ensures.gave pages) (omega (arith, c.serve_frame.ensures.calls, allowed)) (omega (arith, long, c.frames.units.ok.0, c.frames.invariant.units)) (subst (λ n. RoundInPart n c.in-Ok.frame (stage (target g.D.Drive.state c.frames.units c.frames.drives) (g.K.Sink.written c.frames.sink)) (stage (target g.D.Drive.state c.serve_frame.new.units c.serve_frame.new.drives) (g.K.Sink.written c.serve_frame.new.sink))) c.frames.invariant.units c.in-Err-serve_frame.ensures.part)
+    part_more (vec_len c.args.units.now) (loop_state c.args.reader.now (g.S.Source.left c.args.source.now) (stage (target g.D.Drive.state c.args.units.now c.args.drives.now) (g.K.Sink.written c.args.sink.now)) c.args.steps.now) (loop_state c.frames.reader (g.S.Source.left c.frames.source) (stage (target g.D.Drive.state c.frames.units c.frames.drives) (g.K.Sink.written c.frames.sink)) c.frames.steps) (loop_state c.next.new.self (g.S.Source.left c.next.new.source) (stage (target g.D.Drive.state c.serve_frame.new.units c.serve_frame.new.drives) (g.K.Sink.written c.serve_frame.new.sink)) c.serve_frame.new.steps) c.frames.pool.free c.in-Ok.frame c.frames.invariant.going c.in-Ok.ensures.gave (is_whole c.in-Ok.ensures.gave pages) (omega (arith, c.serve_frame.ensures.calls, allowed)) uncalled (omega (arith, long, c.frames.units.ok.0, c.frames.invariant.units)) (subst (λ n. RoundInPart n c.in-Ok.frame (stage (target g.D.Drive.state c.frames.units c.frames.drives) (g.K.Sink.written c.frames.sink)) (stage (target g.D.Drive.state c.serve_frame.new.units c.serve_frame.new.drives) (g.K.Sink.written c.serve_frame.new.sink))) c.frames.invariant.units c.in-Err-serve_frame.ensures.part)
 
 pub returns-then-last-clause-ended : goal.returns-then-last-clause-ended
 returns-then-last-clause-ended g c =
     let pages : c.frames.pool.free ≡ 4096 = omega (arith, c.frames.invariant.number, c.frames.invariant.all_in) in
     let allowed = ap (λ n. frame_calls n c.in-Ok.frame) c.frames.invariant.units in
+    let uncalled = subst (λ n. NoneCalls n c.in-Ok.frame (target g.D.Drive.state c.frames.units c.frames.drives).units → c.serve_frame.new.steps ≡ c.frames.steps) c.frames.invariant.units c.serve_frame.ensures.uncalled in
     let has = c.frames.invariant.serve.has in
     let long = length_states g.D.Drive.state c.frames.units.items c.frames.drives.items (omega (arith, has.same, c.frames.units.ok.0, c.frames.drives.ok.0)) in
-    ended (vec_len c.args.units.now) (loop_state c.args.reader.now (g.S.Source.left c.args.source.now) (stage (target g.D.Drive.state c.args.units.now c.args.drives.now) (g.K.Sink.written c.args.sink.now)) c.args.steps.now) (loop_state c.frames.reader (g.S.Source.left c.frames.source) (stage (target g.D.Drive.state c.frames.units c.frames.drives) (g.K.Sink.written c.frames.sink)) c.frames.steps) (loop_state c.next.new.self (g.S.Source.left c.next.new.source) (stage (target g.D.Drive.state c.serve_frame.new.units c.serve_frame.new.drives) (g.K.Sink.written c.serve_frame.new.sink)) c.serve_frame.new.steps) c.frames.pool.free c.in-Ok.frame c.frames.invariant.going c.in-Ok.ensures.gave (is_whole c.in-Ok.ensures.gave pages) (omega (arith, c.serve_frame.ensures.calls, allowed)) (omega (arith, long, c.frames.units.ok.0, c.frames.invariant.units)) (subst (λ n. RoundDone n c.in-Ok.frame (stage (target g.D.Drive.state c.frames.units c.frames.drives) (g.K.Sink.written c.frames.sink)) (stage (target g.D.Drive.state c.serve_frame.new.units c.serve_frame.new.drives) (g.K.Sink.written c.serve_frame.new.sink))) c.frames.invariant.units c.in-Ok-serve_frame.ensures.done) (sym c.is_end-last.ensures ∙ c.if-last.true)
+    ended (vec_len c.args.units.now) (loop_state c.args.reader.now (g.S.Source.left c.args.source.now) (stage (target g.D.Drive.state c.args.units.now c.args.drives.now) (g.K.Sink.written c.args.sink.now)) c.args.steps.now) (loop_state c.frames.reader (g.S.Source.left c.frames.source) (stage (target g.D.Drive.state c.frames.units c.frames.drives) (g.K.Sink.written c.frames.sink)) c.frames.steps) (loop_state c.next.new.self (g.S.Source.left c.next.new.source) (stage (target g.D.Drive.state c.serve_frame.new.units c.serve_frame.new.drives) (g.K.Sink.written c.serve_frame.new.sink)) c.serve_frame.new.steps) c.frames.pool.free c.in-Ok.frame c.frames.invariant.going c.in-Ok.ensures.gave (is_whole c.in-Ok.ensures.gave pages) (omega (arith, c.serve_frame.ensures.calls, allowed)) uncalled (omega (arith, long, c.frames.units.ok.0, c.frames.invariant.units)) (subst (λ n. RoundDone n c.in-Ok.frame (stage (target g.D.Drive.state c.frames.units c.frames.drives) (g.K.Sink.written c.frames.sink)) (stage (target g.D.Drive.state c.serve_frame.new.units c.serve_frame.new.drives) (g.K.Sink.written c.serve_frame.new.sink))) c.frames.invariant.units c.in-Ok-serve_frame.ensures.done) (sym c.is_end-last.ensures ∙ c.if-last.true)
 
 pub frames-preserved : goal.frames-preserved
 frames-preserved g c =
     let pages : c.frames.pool.free ≡ 4096 = omega (arith, c.frames.invariant.number, c.frames.invariant.all_in) in
     let allowed = ap (λ n. frame_calls n c.in-Ok.frame) c.frames.invariant.units in
+    let uncalled = subst (λ n. NoneCalls n c.in-Ok.frame (target g.D.Drive.state c.frames.units c.frames.drives).units → c.serve_frame.new.steps ≡ c.frames.steps) c.frames.invariant.units c.serve_frame.ensures.uncalled in
     let has = c.frames.invariant.serve.has in
     let long = length_states g.D.Drive.state c.frames.units.items c.frames.drives.items (omega (arith, has.same, c.frames.units.ok.0, c.frames.drives.ok.0)) in
     let new = c.in-Ok.ensures.gave.new_is in
@@ -61,7 +64,7 @@ frames-preserved g c =
       number = omega (arith, c.serve_frame.ensures.number, c.in-Ok.ensures.lent.free, c.in-Ok.ensures.lent.out, c.frames.invariant.number);
       all_in = c.in-Ok-serve_frame.ensures.all_in;
       fresh = ap (λ (r : Reading). r.refused) new ∙ c.frames.invariant.fresh;
-      going = going_more (vec_len c.args.units.now) (loop_state c.args.reader.now (g.S.Source.left c.args.source.now) (stage (target g.D.Drive.state c.args.units.now c.args.drives.now) (g.K.Sink.written c.args.sink.now)) c.args.steps.now) (loop_state c.frames.reader (g.S.Source.left c.frames.source) (stage (target g.D.Drive.state c.frames.units c.frames.drives) (g.K.Sink.written c.frames.sink)) c.frames.steps) (loop_state c.next.new.self (g.S.Source.left c.next.new.source) (stage (target g.D.Drive.state c.serve_frame.new.units c.serve_frame.new.drives) (g.K.Sink.written c.serve_frame.new.sink)) c.serve_frame.new.steps) c.frames.pool.free c.in-Ok.frame c.frames.invariant.going c.in-Ok.ensures.gave (is_whole c.in-Ok.ensures.gave pages) (omega (arith, c.serve_frame.ensures.calls, allowed)) (omega (arith, long, c.frames.units.ok.0, c.frames.invariant.units)) (subst (λ n. RoundDone n c.in-Ok.frame (stage (target g.D.Drive.state c.frames.units c.frames.drives) (g.K.Sink.written c.frames.sink)) (stage (target g.D.Drive.state c.serve_frame.new.units c.serve_frame.new.drives) (g.K.Sink.written c.serve_frame.new.sink))) c.frames.invariant.units c.in-Ok-serve_frame.ensures.done) (sym c.is_end-last.ensures ∙ c.if-last.false);
+      going = going_more (vec_len c.args.units.now) (loop_state c.args.reader.now (g.S.Source.left c.args.source.now) (stage (target g.D.Drive.state c.args.units.now c.args.drives.now) (g.K.Sink.written c.args.sink.now)) c.args.steps.now) (loop_state c.frames.reader (g.S.Source.left c.frames.source) (stage (target g.D.Drive.state c.frames.units c.frames.drives) (g.K.Sink.written c.frames.sink)) c.frames.steps) (loop_state c.next.new.self (g.S.Source.left c.next.new.source) (stage (target g.D.Drive.state c.serve_frame.new.units c.serve_frame.new.drives) (g.K.Sink.written c.serve_frame.new.sink)) c.serve_frame.new.steps) c.frames.pool.free c.in-Ok.frame c.frames.invariant.going c.in-Ok.ensures.gave (is_whole c.in-Ok.ensures.gave pages) (omega (arith, c.serve_frame.ensures.calls, allowed)) uncalled (omega (arith, long, c.frames.units.ok.0, c.frames.invariant.units)) (subst (λ n. RoundDone n c.in-Ok.frame (stage (target g.D.Drive.state c.frames.units c.frames.drives) (g.K.Sink.written c.frames.sink)) (stage (target g.D.Drive.state c.serve_frame.new.units c.serve_frame.new.drives) (g.K.Sink.written c.serve_frame.new.sink))) c.frames.invariant.units c.in-Ok-serve_frame.ensures.done) (sym c.is_end-last.ensures ∙ c.if-last.false);
       read_later = omega (arith, c.frames.invariant.read_later, (c.in-Ok.ensures.causes c.frames.invariant.fresh).later);
       write_later = omega (arith, c.frames.invariant.write_later, c.serve_frame.ensures.cause.later);
     }
