@@ -70,16 +70,18 @@ pub enum Attr {
 /// A SCSI command as it arrives (SAM-5 5.1, Execute Command).
 #[derive(Drop)]
 pub struct Request {
+    // LUN and CDB come first, so that no field lies across a border of eight bytes: a copy that reads eight bytes at once would
+    // wait until those of two fields were written.
+    /// The logical unit number, in 8 bytes (SAM-5 4.6).
+    pub lun: [u8; 8],
+    /// A CDB shorter than 16 bytes stands at the front.
+    pub cdb: [u8; 16],
+    /// The tag that the nexus gave it.
+    pub tag: Tag,
     /// The nexus that sent it.
     pub nexus: Nexus,
     /// The task attribute (SAM-5 8.6).
     pub attr: Attr,
-    /// The logical unit number, in 8 bytes (SAM-5 4.6).
-    pub lun: [u8; 8],
-    /// The tag that the nexus gave it.
-    pub tag: Tag,
-    /// A CDB shorter than 16 bytes stands at the front.
-    pub cdb: [u8; 16],
     /// The data-out, in as many pages as were free.
     pub body: Pages,
     /// The number of bytes of the data-out.
