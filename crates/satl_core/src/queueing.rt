@@ -255,15 +255,15 @@ impl Satl {
             steps,
         ) {
             Ok(ending) => {
-                let modes = modes_after(&command, ending, &self.modes, &wanted);
+                let modes = modes_after(&command, &ending, &self.modes, &wanted);
                 let posting = change_posting(&command, &self.modes, &modes, nexus);
                 post(&mut self.attentions, &self.queue, &posting);
                 self.modes = modes;
-                self.started = started_after(&command, ending, self.started);
-                replies.push(end_task(&mut self.pool, task, ending, descriptor));
+                self.started = started_after(&command, &ending, self.started);
+                replies.push(end_task(&mut self.pool, task, &ending, descriptor));
             }
             Err(LinkDown) => {
-                replies.push(end_task(&mut self.pool, task, link_lost(), descriptor));
+                replies.push(end_task(&mut self.pool, task, &link_lost(), descriptor));
                 self.lose(replies);
             }
         }
@@ -299,7 +299,7 @@ impl Satl {
             Ok(error) => {
                 let task = self.desk.entry_mut();
                 let ending = ending_by(!is_read(&task.command), &error);
-                replies.push(end_task(&mut self.pool, task, ending, descriptor));
+                replies.push(end_task(&mut self.pool, task, &ending, descriptor));
             }
             Err(LinkDown) => self.lose(replies),
         }

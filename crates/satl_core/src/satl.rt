@@ -224,7 +224,7 @@ impl Satl {
                 &self.identity,
                 &self.modes,
                 request,
-                answer,
+                &answer,
                 replies,
             ),
         }
@@ -275,7 +275,7 @@ impl Satl {
             &self.identity,
             &self.modes,
             request,
-            overlapped,
+            &overlapped,
             replies,
         );
         self.take_off(&scope, drive, replies, steps);

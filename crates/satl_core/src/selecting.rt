@@ -25,8 +25,8 @@ pub fn wanted_by(modes: &Modes, change: &Option<ModeChange>) -> Modes
 
 /// The mode values once a task has ended: those that a MODE SELECT that is done wants, and those that the command of an ATA
 /// PASS-THROUGH that is done sets (SPC-4, MODE SELECT commands; SAT-3 12.2).
-pub fn modes_after(command: &Command, ending: Ending, modes: &Modes, wanted: &Modes) -> Modes
-    ensures { result ≡ modes_after command.now ending modes.now wanted.now }
+pub fn modes_after(command: &Command, ending: &Ending, modes: &Modes, wanted: &Modes) -> Modes
+    ensures { result ≡ modes_after command.now ending.now modes.now wanted.now }
 {
     match (Alone::of(command), ending) {
         (_, Ending::Check(_)) => *modes,

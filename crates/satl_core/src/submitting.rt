@@ -395,14 +395,14 @@ pub fn answer_at_once(
     identity: &Identity,
     modes: &Modes,
     request: Request,
-    answer: AtOnce,
+    answer: &AtOnce,
     replies: &mut Replies,
 )
     requires capacity { 1 ≤ identity.now.capacity }
     requires out { length request.body ≤ pool.old.out }
     requires room { 2 ≤ pool.old.free + length request.body }
     requires empty { replies.old ≡ [] }
-    ensures reply { replies.new ≡ reply_at_once identity.now modes.now request answer ∷ [] }
+    ensures reply { replies.new ≡ reply_at_once identity.now modes.now request answer.now ∷ [] }
     ensures free { pool.new.free + reply_pages replies.new ≡ pool.old.free + length request.body }
     ensures out { pool.new.out + length request.body ≡ pool.old.out + reply_pages replies.new }
     ensures writable { IsExpectable request.expected → AllByRecursion IsWritable replies.new }
@@ -412,10 +412,10 @@ pub fn answer_at_once(
     match answer {
         AtOnce::Good => replies.push(reply_to(&request, Scsi::Good, SenseBytes::new())),
         AtOnce::Tell { what, alloc } => replies.push(tell(
-            pool, identity, modes, &request, &what, alloc,
+            pool, identity, modes, &request, what, *alloc,
         )),
         AtOnce::Check(sense) => {
-            let sense = sense_bytes(&sense, modes.d_sense);
+            let sense = sense_bytes(sense, modes.d_sense);
             replies.push(reply_to(&request, Scsi::CheckCondition, sense));
         }
     }

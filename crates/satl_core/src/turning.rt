@@ -143,8 +143,8 @@ fn carry_out<D: Drive<L>, L: Ledger>(
 }
 
 /// Whether the unit is started once a task has ended: a START STOP UNIT that is done decides.
-pub fn started_after(command: &Command, ending: Ending, started: bool) -> bool
-    ensures { result ≡ started_after command.now ending started }
+pub fn started_after(command: &Command, ending: &Ending, started: bool) -> bool
+    ensures { result ≡ started_after command.now ending.now started }
 {
     match (command, ending) {
         (_, Ending::Check(_)) => started,
@@ -180,7 +180,7 @@ pub fn lose_tasks(
 {
     for _ in 0..queue.len() {
         queue.remove(0, desk);
-        replies.push(end_task(pool, desk.entry_mut(), link_lost(), descriptor));
+        replies.push(end_task(pool, desk.entry_mut(), &link_lost(), descriptor));
     }
 }
 
@@ -205,10 +205,10 @@ pub fn is_read(command: &Command) -> bool
 /// Answers a task. A READ that is done gives its pages as data-in, and so does an ATA PASS-THROUGH whose data came from the
 /// drive; all other pages are given back. The task has none then.
 #[inline(always)]
-pub fn end_task(pool: &mut Pool, task: &mut Entry, ending: Ending, descriptor: bool) -> Reply
+pub fn end_task(pool: &mut Pool, task: &mut Entry, ending: &Ending, descriptor: bool) -> Reply
     requires held { length task.old.body ≤ pool.old.out }
     requires few { length task.old.body ≤ most_moved }
-    ensures reply { result ≡ ended_reply task.old ending descriptor }
+    ensures reply { result ≡ ended_reply task.old ending.now descriptor }
     ensures bare { task.new ≡ record task.old { body = [] } }
     ensures free { pool.new.free + length result.body ≡ pool.old.free + length task.old.body }
     ensures out { pool.new.out + length task.old.body ≡ pool.old.out + length result.body }
@@ -227,15 +227,15 @@ pub fn end_task(pool: &mut Pool, task: &mut Entry, ending: Ending, descriptor: b
         Ending::Good => {}
         Ending::Informed(sense) | Ending::Check(sense) => {
             reply.status = Scsi::CheckCondition;
-            reply.sense = sense_bytes(&sense, descriptor);
+            reply.sense = sense_bytes(sense, descriptor);
         }
     }
     reply
 }
 
-fn data_in(pool: &mut Pool, command: &Command, ending: Ending, body: Pages) -> Pages
+fn data_in(pool: &mut Pool, command: &Command, ending: &Ending, body: Pages) -> Pages
     requires { length body ≤ pool.old.out }
-    ensures data { result ≡ Turning.data_in ending command.now body }
+    ensures data { result ≡ Turning.data_in ending.now command.now body }
     ensures free { pool.new.free + length result ≡ pool.old.free + length body }
     ensures out { pool.new.out + length body ≡ pool.old.out + length result }
 {

@@ -25,8 +25,8 @@ use Rattle.satl_serve.specs.declared.telling.Form.TheVariants.{Frames}
 use Rattle.satl_serve.specs.declared.serving.ServeFault.{ServeFault}
 use Rattle.satl_serve.specs.declared.serving.ServeFault.TheVariants as faults
 
--- the drives were called as often at most as there are drives, for their identities, and as these frames allow: those between an
--- UNPLUG and the next POWER, which go to all drives, add none (profile)
+-- the drives were called as often at most as there are drives, for their identities, and as these frames allow: those between
+-- an UNPLUG and the next POWER, which go to all drives, add none (profile)
 abbrev pub HasFewCalls : List Frame → FleetMoment → FleetMoment → Type 0
 HasFewCalls frames before after =
     after.calls ≤ before.calls + length before.drives + calls_allowed (frame_calls (length before.drives)) frames false

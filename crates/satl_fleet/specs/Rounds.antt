@@ -80,7 +80,7 @@ pub record BreaksBehindAll (units : ℕ) (round : Round) (before after : Option 
   pub wrote : Wrote before behind (told_from 0 round.groups)
   pub part : WrotePart behind after (target_told units round.frame ++ end_told round.frame)
 
--- a round was cut: behind all units, or at the answers of one of them; so much the units did then (profile)
+-- a round was cut: behind all units, or at the answers of one of them; with what the units did then (profile)
 pub data IsCut (units : ℕ) (round : Round) (before after : Option (List ℕ)) (All : Type 0) (UpTo : ℕ → Type 0) : Type 0 where
   behind_all : All → BreaksBehindAll units round before after → IsCut units round before after All UpTo
   at_unit : (stop : ℕ) → UpTo stop → BreaksAt stop round.groups before after → IsCut units round before after All UpTo
