@@ -390,6 +390,7 @@ fn first_pages(pool: &mut Pool, count: u32, body: Pages) -> Pages
 }
 
 /// Gives the pages of a request back, and answers it at once.
+#[inline(always)]
 pub fn answer_at_once(
     pool: &mut Pool,
     identity: &Identity,
