@@ -7,10 +7,12 @@ use satl_base::Pages;
 use std::marker::Model;
 use std::mem;
 
-/// Free pages, of which those go out first that came back last: a cache still has them. A clause sees how many they are.
+/// Free pages. Those go out that came back in one piece of about the length that is asked for, of several such the last: a cache
+/// still has them. A clause sees how many they are.
 #[derive(Drop)]
 pub(crate) struct Stock {
-    // What came back, each in one piece: who takes as many pages as the last has gets it without a walk along them.
+    // What came back, each in one piece: who takes as many pages as one has gets it without a walk along them. A walk is slow
+    // where no cache has the pages.
     pieces: ArrayVec<Pages, 64>,
     // Those that never went out, that were too many for who took a piece, and that found no place among the pieces.
     others: Pages,
@@ -47,7 +49,7 @@ impl Stock {
         self.count
     }
 
-    /// Takes `n` of them: the piece that came back last, made as long. None exactly where they are fewer.
+    /// Takes `n` of them: a piece that came back, made as long. None exactly where they are fewer.
     pub(crate) fn take(&mut self, n: u32) -> Option<Pages>
         ensures fewer { IsNone result ↔ (self.old < n) }
         ensures none { IfNone result (self.new ≡ self.old) }
@@ -89,7 +91,7 @@ impl Stock {
     }
 }
 
-/// Takes `n` pages: the last piece, made as long with others or at their gain.
+/// Takes `n` pages: the piece that is nearest in length, made as long with others or at their gain.
 #[inline(never)]
 fn gather(pieces: &mut ArrayVec<Pages, 64>, others: &mut Pages, n: u32) -> Pages
     requires enough { n ≤ pages_in pieces.old.items + length others.old }
@@ -100,12 +102,40 @@ fn gather(pieces: &mut ArrayVec<Pages, 64>, others: &mut Pages, n: u32) -> Pages
     if n == 0 {
         return Pages::default();
     }
-    let mut pages = pieces.pop().unwrap_or_default();
+    let mut pages = take_nearest(pieces, n);
     if pages.blocks() + others.blocks() < n {
         join(pieces, others);
     }
     fit(&mut pages, n, others);
     pages
+}
+
+/// Takes the piece whose length is nearest to `n`, where there is one.
+fn take_nearest(pieces: &mut ArrayVec<Pages, 64>, n: u32) -> Pages
+    ensures { pages_in pieces.new.items + length result ≡ pages_in pieces.old.items }
+{
+    match pieces.swap_pop(nearest(pieces.as_slice(), n)) {
+        Some(piece) => piece,
+        None => Pages::default(),
+    }
+}
+
+/// The place of the piece whose length is nearest to `n`, of several such that of the last; 0 where there is none. No clause
+/// needs to say so: any piece would do.
+fn nearest(pieces: &[Pages], n: u32) -> usize {
+    let mut best = 0;
+    let mut least = u32::MAX;
+    for place in (0..pieces.len()).rev() {
+        let off = pieces[place].blocks().abs_diff(n);
+        if off < least {
+            least = off;
+            best = place;
+        }
+        if off == 0 {
+            break;
+        }
+    }
+    best
 }
 
 /// Makes pages as many as `n`, with others or at their gain.
