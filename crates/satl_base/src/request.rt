@@ -70,8 +70,8 @@ pub enum Attr {
 /// A SCSI command as it arrives (SAM-5 5.1, Execute Command).
 #[derive(Drop)]
 pub struct Request {
-    // LUN and CDB come first, so that no field lies across a border of eight bytes: a copy that reads eight bytes at once would
-    // wait until those of two fields were written.
+    // LUN and CDB come first, so that each field begins on a border of eight bytes or lies between two: a copy that reads eight
+    // bytes at once would else wait until those of two fields were written.
     /// The logical unit number, in 8 bytes (SAM-5 4.6).
     pub lun: [u8; 8],
     /// A CDB shorter than 16 bytes stands at the front.
