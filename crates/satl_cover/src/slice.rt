@@ -1,8 +1,5 @@
 // A source over bytes that stand elsewhere.
-ghost use Rattle.std.specs.Prelude.{◌≡◌, Some, length};
-ghost use Rattle.std.specs.Io.{ReadsAtMost};
-ghost use Rattle.std.specs.Io.KnownBytes.{ReadConsumes};
-ghost use Rattle.satl_io.specs.Causes.{HasCause};
+ghost use Rattle.std.specs.Prelude.{◌≡◌, false, Some, length};
 
 use satl_io::{Failed, Source};
 use std::marker::Model;
@@ -42,13 +39,11 @@ impl<'a> Source for Slice<'a> {
 
     ghost ahead = { λ s. s };
 
+    ghost waited = { λ _. false };
+
     ghost faults = { λ _. 0 };
 
-    fn read(&mut self, buf: &mut [u8]) -> Result<usize, Failed>
-        ensures bound { ReadsAtMost result buf.new }
-        ensures bytes { ReadConsumes (Some self.old) (Some self.new) result buf.new }
-        ensures cause { HasCause 0 0 result }
-    {
+    fn read(&mut self, buf: &mut [u8]) -> Result<usize, Failed> {
         let count = self.rest.len().min(buf.len());
         buf[..count].copy_from_slice(&self.rest[..count]);
         self.rest = &self.rest[count..];

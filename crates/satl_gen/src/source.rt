@@ -1,5 +1,5 @@
 // The generated input as a source.
-ghost use Rattle.std.specs.Prelude.{◌≡◌, [], Some, IsOk};
+ghost use Rattle.std.specs.Prelude.{◌≡◌, false, [], Some, IsOk};
 ghost use Rattle.std.specs.Io.{ReadsAtMost};
 ghost use Rattle.std.specs.Io.KnownBytes.{ReadConsumes};
 ghost use Rattle.satl_gen.specs.Generated.{generated};
@@ -59,6 +59,8 @@ impl Source for GenSource {
     ghost left = { λ s. Some s };
 
     ghost ahead = { λ _. [] };
+
+    ghost waited = { λ _. false };
 
     ghost faults = { λ _. 0 };
 

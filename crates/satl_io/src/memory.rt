@@ -1,5 +1,5 @@
 // Sources and sinks in memory, for tests: they cut the bytes in pieces, and fail at stated calls.
-ghost use Rattle.std.specs.Prelude.{◌≡◌, ◌<◌, ◌≤◌, ◌+◌, ◌-◌, [], ◌++◌, ◌⊎◌, ◌↔◌, IfOk, IsOk, IsErr, IsTrue, MatchResult, Contains, Some, min, length, take, drop};
+ghost use Rattle.std.specs.Prelude.{◌≡◌, ◌<◌, ◌≤◌, ◌+◌, ◌-◌, false, [], ◌++◌, ◌⊎◌, ◌↔◌, IfOk, IsOk, IsErr, IsTrue, MatchResult, Contains, Some, min, length, take, drop};
 ghost use Rattle.std.specs.Io.{ReadsAtMost, WritesAtMost};
 ghost use Rattle.std.specs.Io.KnownBytes.{Keeps, ReadConsumes, WriteAppends};
 ghost use Rattle.satl_io.specs.Causes.{HasCause, next_count};
@@ -96,6 +96,8 @@ impl Source for MemorySource {
 
     ghost ahead = { λ s. take s.piece s.left };
 
+    ghost waited = { λ _. false };
+
     ghost faults = { λ s. s.faults };
 
     fn read(&mut self, buf: &mut [u8]) -> Result<usize, Failed>
@@ -162,6 +164,8 @@ impl Source for NeverFails {
     ghost left = { λ s. Some s };
 
     ghost ahead = { λ s. s };
+
+    ghost waited = { λ _. false };
 
     ghost faults = { λ _. 0 };
 

@@ -1,5 +1,5 @@
 // A source of bytes.
-ghost use Rattle.std.specs.Prelude.{◌≡◌, ◌<◌, ◌≤◌, List, ℕ, length, take, IfSome};
+ghost use Rattle.std.specs.Prelude.{◌≡◌, ◌<◌, ◌≤◌, Bool, false, List, ℕ, length, take, IfOk, IfSome};
 ghost use Rattle.std.specs.declared.option.Option.{Option};
 ghost use Rattle.std.specs.Io.{ReadsAtMost, StartsWith};
 ghost use Rattle.std.specs.Io.KnownBytes.{Keeps, ReadConsumes};
@@ -27,6 +27,10 @@ pub trait Source {
     /// The bytes that the source has read ahead: a front of those that are left.
     ghost ahead: { Self → List ℕ };
 
+    /// Whether it may have waited for a byte since it last gave one: whoever owes an answer has waited too early then. A source that
+    /// cannot wait says no.
+    ghost waited: { Self → Bool };
+
     /// How often a read has failed. The count never falls, and stands still at 2^64 - 1.
     ghost faults: { Self → ℕ };
 
@@ -36,9 +40,10 @@ pub trait Source {
         requires { 0 < length buf.old }
         ensures bound { ReadsAtMost result buf.new }
         ensures bytes { ReadConsumes (left self.old) (left self.new) result buf.new }
+        ensures unwaited { IfOk result (λ n. 0 < n → waited self.new ≡ false) }
         ensures cause { HasCause (faults self.old) (faults self.new) result };
 
-    /// May read ahead, that more be shown: no clause says how much. `Ok` and `Failed` take no byte.
+    /// May read ahead, that more be shown, and may wait for it: no clause says how much. `Ok` and `Failed` take no byte.
     fn read_ahead(&mut self) -> Result<(), Failed>
         ensures bytes { Keeps (left self.old) (left self.new) }
         ensures cause { HasCause (faults self.old) (faults self.new) result };
@@ -52,5 +57,6 @@ pub trait Source {
     fn consume(&mut self, count: usize)
         requires { count ≤ length (ahead self.old) }
         ensures bytes { Took (left self.old) (left self.new) (take count (ahead self.old)) }
+        ensures unwaited { 0 < count → waited self.new ≡ false }
         ensures faults { faults self.new ≡ faults self.old };
 }

@@ -1,5 +1,5 @@
 // The edge: std's readers and writers. Those of a process tell no bytes, so no clause knows these.
-ghost use Rattle.std.specs.Prelude.{◌≡◌, ◌<◌, [], IfOk, MatchResult};
+ghost use Rattle.std.specs.Prelude.{◌≡◌, ◌<◌, true, false, [], IfOk, MatchResult, nat_lt};
 ghost use Rattle.std.specs.Io.{ReadsAtMost, WritesAtMost};
 ghost use Rattle.std.specs.Io.KnownBytes.{ReadConsumes, WriteAppends};
 ghost use Rattle.satl_io.specs.Causes.{HasCause, next_count};
@@ -13,24 +13,26 @@ use std::marker::Model;
 #[derive(Drop)]
 pub struct StdSource<R: Read + Drop> {
     inner: R,
+    waited: bool,
     faults: u64,
 }
 
 impl<R: Read + Drop> Model for StdSource<R> {
-    ghost use Rattle.satl_io.specs.Streams.{Stream};
+    ghost use Rattle.satl_io.specs.Streams.{ReaderStream};
 
-    ghost Value = { Stream };
+    ghost Value = { ReaderStream };
 
-    ghost view = { λ s. record { bytes = R.remaining s.inner; faults = s.faults } };
+    ghost view = { λ s. record { bytes = R.remaining s.inner; waited = s.waited; faults = s.faults } };
 }
 
 impl<R: Read + Drop> StdSource<R> {
-    /// Reads from `input`, with no fault so far (profile).
+    /// Reads from `input`, with no fault and no wait so far (profile).
     pub fn new(input: R) -> Self
-        ensures { result ≡ record { bytes = R.remaining input; faults = 0 } }
+        ensures { result ≡ record { bytes = R.remaining input; waited = false; faults = 0 } }
     {
         StdSource {
             inner: input,
+            waited: false,
             faults: 0,
         }
     }
@@ -41,6 +43,8 @@ impl<R: Read + Drop> Source for StdSource<R> {
 
     ghost ahead = { λ _. [] };
 
+    ghost waited = { λ s. s.waited };
+
     ghost faults = { λ s. s.faults };
 
     fn read(&mut self, buf: &mut [u8]) -> Result<usize, Failed>
@@ -49,9 +53,14 @@ impl<R: Read + Drop> Source for StdSource<R> {
         ensures cause { HasCause self.old.faults self.new.faults result }
         ensures count { MatchResult result (λ _. self.new.faults ≡ self.old.faults)
             (λ _. self.new.faults ≡ next_count self.old.faults) }
+        ensures waits { MatchResult result (λ n. self.new.waited ≡ nat_lt n 1) (λ _. self.new.waited ≡ true) }
     {
+        self.waited = true;
         match self.inner.read(buf) {
-            Ok(count) => Ok(count),
+            Ok(count) => {
+                self.waited = count == 0;
+                Ok(count)
+            }
             Err(_) => Err(count_fault(&mut self.faults)),
         }
     }
