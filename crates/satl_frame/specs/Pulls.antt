@@ -1,5 +1,5 @@
 -- What pulling a stated number of bytes from a source leaves (profile).
-use Rattle.std.specs.Prelude.{ℕ, ◌<◌, ◌≤◌, ◌≡◌, true, List, ◌++◌, length, take, reverse, IfSome, IsErrOf, Option, Some, None}
+use Rattle.std.specs.Prelude.{ℕ, ◌<◌, ◌≤◌, ◌≡◌, Bool, true, false, List, ◌++◌, length, take, reverse, IfOk, IfSome, IsErrOf, Option, Some, None}
 use Rattle.std.specs.declared.result.Result.{Result}
 use Rattle.std.specs.declared.result.Result.TheVariants.{Ok, Err}
 use Rattle.satl_io.specs.Causes.{Rose}
@@ -34,6 +34,10 @@ pub record FewerThan (left left' : Option (List ℕ)) (n : List ℕ → ℕ) : T
 -- where a read failed, fewer bytes were taken than were asked for
 abbrev pub Stopped : {T : Type 0} → Option (List ℕ) → Option (List ℕ) → ℕ → Result T PullError → Type 0
 Stopped left left' n result = IsErrOf result Failed → FewerThan left left' (λ _. n)
+
+-- where all bytes came, the source has waited for none behind them, if it had waited for none before
+abbrev pub StaysUnwaited : {T E : Type 0} → Bool → Bool → Result T E → Type 0
+StaysUnwaited waited waited' result = IfOk result (λ _. waited ≡ false → waited' ≡ false)
 
 -- so many bytes were taken
 pub record TookCount (left left' : Option (List ℕ)) (n : ℕ) : Type 0 where

@@ -1,10 +1,10 @@
 // The reader of frames.
-ghost use Rattle.std.specs.Prelude.{◌≡◌, ◌<◌, ◌+◌, ℕ, true, IfOk, IfErr, IfSome, IfNone, Some, None, Err, length, slice_index};
+ghost use Rattle.std.specs.Prelude.{◌≡◌, ◌<◌, ◌+◌, ℕ, true, false, IfOk, IfErr, IfSome, IfNone, Some, None, Err, length, slice_index};
 ghost use Rattle.satl_base.specs.Stocks.{HasLent};
 ghost use Rattle.satl_frame.specs.declared.frames.Frame.TheVariants as frames;
 ghost use Rattle.satl_frame.specs.Faults.{told_length};
 ghost use Rattle.satl_frame.specs.Frames.{frame_rows, has_code, allows};
-ghost use Rattle.satl_frame.specs.Pulls.{PullCauses, Stopped, TookPayload, TookRest, TookBadField, asked_pages, found_pages, frame_pages, given_pages, head_of_request, request_pages};
+ghost use Rattle.satl_frame.specs.Pulls.{PullCauses, StaysUnwaited, Stopped, TookPayload, TookRest, TookBadField, asked_pages, found_pages, frame_pages, given_pages, head_of_request, request_pages};
 ghost use Rattle.satl_frame.specs.Reading.{Reading, Gave, Blames, ReadCauses};
 ghost use Rattle.satl_frame.specs.Steps.{Began, BlamesMagic, StoodAt, BlamesAt, BlamesPayload, head_in};
 
@@ -30,6 +30,7 @@ fn pull_rest<S: Source, P: Lender>(
     len: u32,
 ) -> Result<Request, PullError>
     ensures filled { IfOk result (TookRest (S.left source.old) (S.left source.new) request len (P.stock lender.old).free) }
+    ensures stays { StaysUnwaited (S.waited source.old) (S.waited source.new) result }
     ensures stopped { Stopped (S.left source.old) (S.left source.new) len result }
     ensures causes { PullCauses (S.left source.old) (S.left source.new) len (S.faults source.old) (S.faults source.new) result }
     ensures lent { HasLent (given_pages request_pages result) (P.stock lender.old) (P.stock lender.new) }
@@ -58,6 +59,7 @@ fn pull_request<S: Source, P: Lender>(
         (frames.Request request))) }
     ensures none { IfOk result (λ found. IfNone found
         (TookBadField (S.left source.old) (S.left source.new) (head_of_request version len))) }
+    ensures stays { StaysUnwaited (S.waited source.old) (S.waited source.new) result }
     ensures stopped { Stopped (S.left source.old) (S.left source.new) len result }
     ensures causes { PullCauses (S.left source.old) (S.left source.new) len (S.faults source.old) (S.faults source.new) result }
     ensures lent { HasLent (given_pages asked_pages result) (P.stock lender.old) (P.stock lender.new) }
@@ -93,6 +95,7 @@ fn pull_small<'a, S: Source>(
         (record { version = version; code = code; len = len }) free)) }
     ensures none { IfOk result (λ found. IfNone found (TookBadField (S.left source.old) (S.left source.new)
         (record { version = version; code = code; len = len }))) }
+    ensures stays { StaysUnwaited (S.waited source.old) (S.waited source.new) result }
     ensures stopped { Stopped (S.left source.old) (S.left source.new) len result }
     ensures causes { PullCauses (S.left source.old) (S.left source.new) len (S.faults source.old) (S.faults source.new) result }
     ensures pages { given_pages found_pages result ≡ 0 }
@@ -118,6 +121,7 @@ fn pull_payload<'a, S: Source, P: Lender>(
         (record { version = version; code = code; len = len }) (P.stock lender.old).free)) }
     ensures none { IfOk result (λ found. IfNone found (TookBadField (S.left source.old) (S.left source.new)
         (record { version = version; code = code; len = len }))) }
+    ensures stays { StaysUnwaited (S.waited source.old) (S.waited source.new) result }
     ensures stopped { Stopped (S.left source.old) (S.left source.new) len result }
     ensures causes { PullCauses (S.left source.old) (S.left source.new) len (S.faults source.old) (S.faults source.new) result }
     ensures lent { HasLent (given_pages found_pages result) (P.stock lender.old) (P.stock lender.new) }
@@ -146,6 +150,7 @@ fn read_payload<'a, S: Source, P: Lender>(
     requires allowed { allows (frame_rows place.version) (slice_index head.now 0) (told_length head.now) ≡ true }
     ensures frame { IfOk result
         (TookPayload (S.left source.old) (S.left source.new) (head_in place.version head.now) (P.stock lender.old).free) }
+    ensures stays { StaysUnwaited (S.waited source.old) (S.waited source.new) result }
     ensures fault { IfErr result
         (BlamesPayload (head_in place.version head.now) place.offset (S.left source.old) (S.left source.new)) }
     ensures causes { ReadCauses (S.faults source.old) (S.faults source.new) result }
@@ -185,6 +190,7 @@ fn read_frame<'a, S: Source, P: Lender>(
 ) -> Result<(Frame<'a>, u64), FrameFault>
     ensures frame { IfOk result (λ x. StoodAt limit (record { place = place; left = S.left source.old })
         (record { place = record place { offset = x.1 }; left = S.left source.new }) (P.stock lender.old).free x.0) }
+    ensures unwaited { IfOk result (λ _. S.waited source.new ≡ false) }
     ensures fault { IfErr result (BlamesAt limit place (S.left source.old) (S.left source.new)) }
     ensures causes { ReadCauses (S.faults source.old) (S.faults source.new) result }
     ensures lent { HasLent (given_pages (λ x. frame_pages x.0) result) (P.stock lender.old) (P.stock lender.new) }
@@ -302,6 +308,7 @@ impl FrameReader {
         room: &'a mut [u8; LONGEST_EVENT],
     ) -> Result<Frame<'a>, FrameFault>
         ensures gave { IfOk result (λ f. Gave self.old (P.stock lender.old).free f self.new (S.left source.old) (S.left source.new)) }
+        ensures unwaited { IfOk result (λ _. S.waited source.new ≡ false) }
         ensures blames { IfErr result (λ e. Blames self.old (S.left source.old) (S.left source.new) e × (self.new ≡ self.old)) }
         ensures causes { ReadCauses (S.faults source.old) (S.faults source.new) result }
         ensures lent { HasLent (given_pages frame_pages result) (P.stock lender.old) (P.stock lender.new) }
@@ -319,10 +326,10 @@ impl FrameReader {
         }
     }
 
-    /// The next frame, and before the first one the magic (profile). Exactly its bytes are taken from the source. Its order
-    /// bytes stay in the room. Its data-out stands in the first pages that the lender has free: bytes that do not fit are taken
-    /// and dropped, and `data_len` is the length of all. `Bad` says why and where the input is refused; `ReadFault` that a read
-    /// failed. Either is answered again from then on, and nothing more is read.
+    /// The next frame, and before the first one the magic (profile). Exactly its bytes are taken from the source, and none behind
+    /// them is waited for. Its order bytes stay in the room. Its data-out stands in the first pages that the lender has free:
+    /// bytes that do not fit are taken and dropped, and `data_len` is the length of all. `Bad` says why and where the input is
+    /// refused; `ReadFault` that a read failed. Either is answered again from then on, and nothing more is read.
     pub fn next<'a, S: Source, P: Lender>(
         &mut self,
         source: &mut S,
@@ -330,6 +337,9 @@ impl FrameReader {
         room: &'a mut [u8; LONGEST_EVENT],
     ) -> Result<Frame<'a>, FrameFault>
         ensures gave { IfOk result (λ f. Gave self.old (P.stock lender.old).free f self.new (S.left source.old) (S.left source.new)) }
+
+        // It waits for no byte behind the frame.
+        ensures unwaited { IfOk result (λ _. S.waited source.new ≡ false) }
 
         // A refusal is repeated; a first one is that of the bytes left, or a read has failed.
         ensures repeats { IfSome self.old.refused

@@ -1,9 +1,9 @@
 // Data-out from the source into pages.
-ghost use Rattle.std.specs.Prelude.{◌≡◌, ◌<◌, ◌≤◌, ◌+◌, ◌-◌, ◌*◌, ◌^◌, ◌++◌, [], IfOk, OnOk, length, take, drop, reverse};
+ghost use Rattle.std.specs.Prelude.{◌≡◌, ◌<◌, ◌≤◌, ◌+◌, ◌-◌, ◌*◌, ◌^◌, ◌++◌, [], false, IfOk, OnOk, length, take, drop, reverse};
 ghost use Rattle.satl_base.specs.Blocks.{zero_bytes};
 ghost use Rattle.satl_base.specs.Stocks.{HasLent};
 ghost use Rattle.satl_frame.specs.DataPages.{page_count};
-ghost use Rattle.satl_frame.specs.Pulls.{PullCauses, Stopped, TookCount, TookPages, FilledInReverse, given_pages};
+ghost use Rattle.satl_frame.specs.Pulls.{PullCauses, StaysUnwaited, Stopped, TookCount, TookPages, FilledInReverse, given_pages};
 
 use crate::pulling::{PullError, pull};
 use satl_base::{BLOCK_BYTES, Lender, Pages};
@@ -34,6 +34,7 @@ fn pull_chunk<S: Source>(
     ensures placed { OnOk result (FilledInReverse (S.left source.old) (S.left source.new) count (length todo.old)
         done.old done.new) }
     ensures same { length todo.new + length done.new ≡ length todo.old + length done.old }
+    ensures unwaited { OnOk result (0 < count → S.waited source.new ≡ false) }
     ensures stopped { Stopped (S.left source.old) (S.left source.new) count result }
     ensures causes { PullCauses (S.left source.old) (S.left source.new) count (S.faults source.old)
         (S.faults source.new) result }
@@ -58,6 +59,7 @@ fn take_ahead<S: Source>(
         (length todo.old) done.old done.new) }
     ensures within { IfOk result (λ pages. 512 * pages ≤ len) }
     ensures same { length todo.new + length done.new ≡ length todo.old + length done.old }
+    ensures unwaited { IfOk result (λ pages. 0 < pages → S.waited source.new ≡ false) }
     ensures stopped { Stopped (S.left source.old) (S.left source.new) len result }
     ensures causes { PullCauses (S.left source.old) (S.left source.new) len (S.faults source.old) (S.faults source.new) result }
 {
@@ -84,6 +86,7 @@ fn fill_pages<S: Source>(
     requires few { length todo.old < 2 ^ 32 }
     ensures filled { OnOk result (TookPages (S.left source.old) (S.left source.new) len (length todo.old) (reverse done.new)) }
     ensures same { length todo.new + length done.new ≡ length todo.old }
+    ensures stays { StaysUnwaited (S.waited source.old) (S.waited source.new) result }
     ensures stopped { Stopped (S.left source.old) (S.left source.new) len result }
     ensures causes { PullCauses (S.left source.old) (S.left source.new) len (S.faults source.old) (S.faults source.new) result }
 {
@@ -104,6 +107,7 @@ fn fill_pages<S: Source>(
 /// Takes bytes from the source, and drops them.
 pub fn skip<S: Source>(source: &mut S, buffer: &mut [u8; CHUNK], len: u32) -> Result<(), PullError>
     ensures bytes { OnOk result (TookCount (S.left source.old) (S.left source.new) len) }
+    ensures stays { StaysUnwaited (S.waited source.old) (S.waited source.new) result }
     ensures stopped { Stopped (S.left source.old) (S.left source.new) len result }
     ensures causes { PullCauses (S.left source.old) (S.left source.new) len (S.faults source.old) (S.faults source.new) result }
 {
@@ -125,6 +129,7 @@ pub fn pull_by<S: Source, P: Lender>(
     len: u32,
 ) -> Result<Pages, PullError>
     ensures filled { IfOk result (TookPages (S.left source.old) (S.left source.new) len (P.stock lender.old).free) }
+    ensures stays { StaysUnwaited (S.waited source.old) (S.waited source.new) result }
     ensures stopped { Stopped (S.left source.old) (S.left source.new) len result }
     ensures causes { PullCauses (S.left source.old) (S.left source.new) len (S.faults source.old) (S.faults source.new) result }
     ensures lent { HasLent (given_pages length result) (P.stock lender.old) (P.stock lender.new) }
@@ -156,6 +161,7 @@ pub fn pull_data<S: Source, P: Lender>(
     len: u32,
 ) -> Result<Pages, PullError>
     ensures filled { IfOk result (TookPages (S.left source.old) (S.left source.new) len (P.stock lender.old).free) }
+    ensures stays { StaysUnwaited (S.waited source.old) (S.waited source.new) result }
     ensures stopped { Stopped (S.left source.old) (S.left source.new) len result }
     ensures causes { PullCauses (S.left source.old) (S.left source.new) len (S.faults source.old) (S.faults source.new) result }
     ensures lent { HasLent (given_pages length result) (P.stock lender.old) (P.stock lender.new) }

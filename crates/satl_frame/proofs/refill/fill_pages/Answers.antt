@@ -9,6 +9,7 @@ loop-at-init g c = record {
   filled = nothing_filled _ (length c.args.todo.now) c.args.done.now;
   within = omega arith;
   aligned = λ _. refl;
+  unwaited = λ w. w;
   same = omega (arith, ap length c.requires.none);
   later = omega arith;
 }
@@ -22,6 +23,7 @@ loop-at-preserved-then-pages-gt0 g c =
       filled = filled_more before.filled aligned (omega (arith, before.same, ap length c.requires.none)) known.placed;
       within = omega (arith, known.within);
       aligned = λ more. omega (arith, aligned);
+      unwaited = λ _. known.unwaited c.if-pages-gt0.true;
       same = omega (arith, known.same, before.same);
       later = omega (arith, known.causes.later, before.later);
     }
@@ -40,6 +42,7 @@ loop-at-preserved g c =
       filled = filled_more still aligned (omega (arith, known.same, before.same, ap length c.requires.none)) more.placed;
       within = omega (arith, c.min-count.ensures);
       aligned = λ left. omega (arith, c.min-count.ensures, aligned);
+      unwaited = λ _. more.unwaited (omega (arith, c.min-count.ensures, c.loop-at-test.true));
       same = omega (arith, more.same, known.same, before.same);
       later = omega (arith, more.causes.later, known.causes.later, before.later);
     }
