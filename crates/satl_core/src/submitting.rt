@@ -390,6 +390,7 @@ fn first_pages(pool: &mut Pool, count: u32, body: Pages) -> Pages
 }
 
 /// Gives the pages of a request back, and answers it at once.
+// Inlined where a request arrives: most of what it takes is in registers there, and a call would write it to memory first.
 #[inline(always)]
 pub fn answer_at_once(
     pool: &mut Pool,
