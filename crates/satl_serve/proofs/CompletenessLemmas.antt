@@ -92,8 +92,8 @@ cause_of_serving before after faults.Write cause = cause
 
 -- what the result says where it was opened, on a drive that was first so, then opened, and last so
 pub says_opened : {A : Type 0} (form : Form) (limit : ℕ) (before after : Moment) (mid : DriveState) (opened : ℕ) (l l' : Layer) (is : IsOpened before.drive l mid) (one : opened ≤ before.calls + 1) (tied : Tied l' after.drive) (ties : TiesQueue l' after.drive) (r : Result A ServeFault)
-    → IfOk r (λ _. RanWhole form limit (record { left = before.source.left; written = before.sink.written; stand = record { device = view l mid; tally = tally_of mid opened } }) (spot_at (view l' after.drive) after.calls after))
-    → IfErr r (RanTo form limit (record { left = before.source.left; written = before.sink.written; stand = record { device = view l mid; tally = tally_of mid opened } }) (spot_at (view l' after.drive) after.calls after))
+    → IfOk r (λ _. RanWhole form limit (record { left = before.source.left; waited = before.source.waited; written = before.sink.written; stand = record { device = view l mid; tally = tally_of mid opened } }) (spot_at (view l' after.drive) after.calls after))
+    → IfErr r (RanTo form limit (record { left = before.source.left; waited = before.source.waited; written = before.sink.written; stand = record { device = view l mid; tally = tally_of mid opened } }) (spot_at (view l' after.drive) after.calls after))
     → IfErr r (HasStreamCause before.source after.source before.sink after.sink) → ResultSays form limit before after r
 says_opened form limit before after mid opened l l' is one tied ties r whole stopped cause = record {
   stopped = IfErr-weaker r _ _ (stops form limit before after mid opened l l' is one tied ties) stopped;

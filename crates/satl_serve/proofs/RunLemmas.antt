@@ -1,7 +1,7 @@
 -- What a run by a teller is.
 use Rattle.std.proofs.Common.{◌≡◌, inl, inr, refl, sym, ap, subst, arith, ◌∙◌, ℕ, ◌≤◌, List, [], ◌∷◌, ◌++◌, length, map}
 use Rattle.std.proofs.lemmas.List.{length-append}
-use Rattle.std.specs.Prelude.{Option, None, Some}
+use Rattle.std.specs.Prelude.{Bool, Option, None, Some}
 use Rattle.satl_base.proofs.ListsLemmas.{how_many-push}
 use Rattle.satl_base.specs.Limits.{input_limit}
 use Rattle.satl_io.specs.Known.{Wrote, WrotePart}
@@ -40,7 +40,7 @@ use Rattle.satl_serve.proofs.TellerLemmas.{all_told_in, tells_on}
 
 -- where a stage stands that was reached behind what was written
 abbrev pub spot_of : {T : Type 0} → Option (List ℕ) → LoopState T → Spot
-spot_of written a = record { left = a.left; written = written; stand = a.scene.stand }
+spot_of written a = record { left = a.left; waited = a.waited; written = written; stand = a.scene.stand }
 
 abbrev pub seen : {T : Type 0} → LoopState T → Spot
 seen a = spot_of a.scene.telling.written a
@@ -93,6 +93,7 @@ module _ {T : Type 0} (by : T → Answer → List ℕ) (behind : T → Answer �
         groups = s.groups;
         place = read.0;
         read = read.1;
+        unwaited = e.unwaited;
         wrote = printed form written a b.scene.telling (joined s.groups) begins s.told_so;
         run = run_to a.scene.stand b.scene.stand s.events (e.earlier ++ frames.End ∷ []) s.groups e.ends s.run;
         deep = s.run.covered deep;
@@ -171,6 +172,7 @@ module _ {T : Type 0} (by : T → Answer → List ℕ) (behind : T → Answer �
         newest_is = t.given.newest ∙ begins.newest;
         none_ends = t.going.none_ends;
         read = t.given.read;
+        unwaited = t.unwaited;
         wrote = printed form written a mid (joined s.groups) begins s.told_so;
         part = subst (λ l. WrotePart mid.written b.scene.telling.written l) same t.told_so.part;
         run = t.run;
@@ -196,5 +198,5 @@ stop_cause form read read' first begun_at before after fault stops.Write earlier
     let same = ap (λ (w : SinkState). w.faults) stays in subst (HasStreamCause read read' first after) (sym is) (omega (arith, cause, earlier, same))
 
 -- nothing was read, and what stands before all answers was written in part
-pub in_magic : (form : Form) (left written written' : Option (List ℕ)) (l : Layer) (a : Stand) → l.tasks ≡ [] → a.device.tasks ≡ map task_of (entries_of l.tasks) → WrotePart written written' (begun form) → BrokeInMagic form (record { left = left; written = written; stand = a }) (record { left = left; written = written'; stand = a })
-in_magic form left written written' l a idle seen part = record { read = refl; part = part; run = run_start a (seen ∙ ap (λ t. map task_of (entries_of t)) idle) }
+pub in_magic : (form : Form) (left : Option (List ℕ)) (waited : Bool) (written written' : Option (List ℕ)) (l : Layer) (a : Stand) → l.tasks ≡ [] → a.device.tasks ≡ map task_of (entries_of l.tasks) → WrotePart written written' (begun form) → BrokeInMagic form (record { left = left; waited = waited; written = written; stand = a }) (record { left = left; waited = waited; written = written'; stand = a })
+in_magic form left waited written written' l a idle seen part = record { read = refl; waits = refl; part = part; run = run_start a (seen ∙ ap (λ t. map task_of (entries_of t)) idle) }

@@ -1,6 +1,6 @@
 -- Serving from before the layer was opened.
 use Rattle.std.proofs.Common.{◌≡◌, inl, inr, refl, sym, ap, subst, arith, ◌∙◌, ℕ, ◌+◌, ◌≤◌, List, [], map}
-use Rattle.std.specs.Prelude.{Option, Ok, Err, Result, IfErr}
+use Rattle.std.specs.Prelude.{Bool, Option, Ok, Err, Result, IfErr}
 use Rattle.std.specs.Result.{IsErrAnd}
 use Rattle.satl_io.specs.Causes.{RoseBy}
 use Rattle.satl_frame.specs.declared.frames.Frame.{Frame}
@@ -80,17 +80,17 @@ module _ (s : Device) (old new : Tally) (same : new ≡ record old { calls = new
   sooner_cut : (b : Stand) (events : List Frame) (groups : List (List Answer)) → RunCutSoFar (record { device = s; tally = new }) b events groups → RunCutSoFar (record { device = s; tally = old }) b events groups
   sooner_cut b events groups r = record { losses = r.losses; run = r.run; counted = sooner_counted events r.losses b r.counted }
 
-  module _ (form : Form) (limit : ℕ) (left written : Option (List ℕ)) (b : Spot) where
-    sooner_whole : RanWhole form limit (record { left = left; written = written; stand = record { device = s; tally = new } }) b → RanWhole form limit (record { left = left; written = written; stand = record { device = s; tally = old } }) b
+  module _ (form : Form) (limit : ℕ) (left : Option (List ℕ)) (waited : Bool) (written : Option (List ℕ)) (b : Spot) where
+    sooner_whole : RanWhole form limit (record { left = left; waited = waited; written = written; stand = record { device = s; tally = new } }) b → RanWhole form limit (record { left = left; waited = waited; written = written; stand = record { device = s; tally = old } }) b
     unfolding sooner
-    sooner_whole r = record { events = r.events; groups = r.groups; place = r.place; read = r.read; wrote = r.wrote; run = sooner b.stand _ _ r.run; deep = r.deep }
+    sooner_whole r = record { events = r.events; groups = r.groups; place = r.place; read = r.read; unwaited = r.unwaited; wrote = r.wrote; run = sooner b.stand _ _ r.run; deep = r.deep }
 
-    sooner_before : (why : FrameFault) → RanBefore form limit why (record { left = left; written = written; stand = record { device = s; tally = new } }) b → RanBefore form limit why (record { left = left; written = written; stand = record { device = s; tally = old } }) b
+    sooner_before : (why : FrameFault) → RanBefore form limit why (record { left = left; waited = waited; written = written; stand = record { device = s; tally = new } }) b → RanBefore form limit why (record { left = left; waited = waited; written = written; stand = record { device = s; tally = old } }) b
     sooner_before why r = record { events = r.events; groups = r.groups; read = r.read; wrote = r.wrote; run = sooner b.stand _ _ r.run }
 
-    sooner_part : RanInPart form limit (record { left = left; written = written; stand = record { device = s; tally = new } }) b → RanInPart form limit (record { left = left; written = written; stand = record { device = s; tally = old } }) b
-    sooner_part (inl r) = inl (record { read = r.read; part = r.part; run = sooner b.stand [] [] r.run })
-    sooner_part (inr (inl r)) = inr (inl (record { events = r.events; groups = r.groups; event = r.event; answers = r.answers; reader = r.reader; behind = r.behind; limit_is = r.limit_is; newest_is = r.newest_is; none_ends = r.none_ends; read = r.read; wrote = r.wrote; part = r.part; run = sooner_cut b.stand _ _ r.run }))
+    sooner_part : RanInPart form limit (record { left = left; waited = waited; written = written; stand = record { device = s; tally = new } }) b → RanInPart form limit (record { left = left; waited = waited; written = written; stand = record { device = s; tally = old } }) b
+    sooner_part (inl r) = inl (record { read = r.read; waits = r.waits; part = r.part; run = sooner b.stand [] [] r.run })
+    sooner_part (inr (inl r)) = inr (inl (record { events = r.events; groups = r.groups; event = r.event; answers = r.answers; reader = r.reader; behind = r.behind; limit_is = r.limit_is; newest_is = r.newest_is; none_ends = r.none_ends; read = r.read; unwaited = r.unwaited; wrote = r.wrote; part = r.part; run = sooner_cut b.stand _ _ r.run }))
     sooner_part (inr (inr r)) = inr (inr (record { events = r.events; groups = r.groups; reason = r.reason; offset = r.offset; behind = r.behind; read = r.read; wrote = r.wrote; part = r.part; run = sooner b.stand _ _ r.run }))
 
 -- ---- serving
@@ -98,7 +98,7 @@ module _ (s : Device) (old new : Tally) (same : new ≡ record old { calls = new
 -- how the layer was opened and served, on a drive that was first so, then opened, and last so
 module _ (form : Form) (limit : ℕ) (before after : Moment) (mid : DriveState) (opened : ℕ) (l l' : Layer) (is : IsOpened before.drive l mid) (one : opened ≤ before.calls + 1) (tied : Tied l' after.drive) (ties : TiesQueue l' after.drive) where
   abbrev a : Spot
-  a = record { left = before.source.left; written = before.sink.written; stand = record { device = view l mid; tally = tally_of mid opened } }
+  a = record { left = before.source.left; waited = before.source.waited; written = before.sink.written; stand = record { device = view l mid; tally = tally_of mid opened } }
 
   abbrev b : Spot
   b = spot_at (view l' after.drive) after.calls after
@@ -111,7 +111,7 @@ module _ (form : Form) (limit : ℕ) (before after : Moment) (mid : DriveState) 
     first = view l mid;
     last = view l' after.drive;
     begins = first_of before.drive mid l is;
-    run = sooner_whole (view l mid) (tally_of before.drive (before.calls + 1)) (tally_of mid opened) tally_same one form limit before.source.left before.sink.written b r;
+    run = sooner_whole (view l mid) (tally_of before.drive (before.calls + 1)) (tally_of mid opened) tally_same one form limit before.source.left before.source.waited before.sink.written b r;
     ends = left_as l' after.drive tied;
     queue = record { given = given_by l'; queue = ties.queue };
   }
@@ -125,7 +125,7 @@ module _ (form : Form) (limit : ℕ) (before after : Moment) (mid : DriveState) 
     first = view l mid;
     last = view l' after.drive;
     begins = first_of before.drive mid l is;
-    run = sooner_before (view l mid) (tally_of before.drive (before.calls + 1)) (tally_of mid opened) tally_same one form limit before.source.left before.sink.written b why r;
+    run = sooner_before (view l mid) (tally_of before.drive (before.calls + 1)) (tally_of mid opened) tally_same one form limit before.source.left before.source.waited before.sink.written b why r;
     ends = left_as l' after.drive tied;
     queue = record { given = given_by l'; queue = ties.queue };
   }
@@ -135,7 +135,7 @@ module _ (form : Form) (limit : ℕ) (before after : Moment) (mid : DriveState) 
     first = view l mid;
     last = view l' after.drive;
     begins = first_of before.drive mid l is;
-    run = sooner_part (view l mid) (tally_of before.drive (before.calls + 1)) (tally_of mid opened) tally_same one form limit before.source.left before.sink.written b r;
+    run = sooner_part (view l mid) (tally_of before.drive (before.calls + 1)) (tally_of mid opened) tally_same one form limit before.source.left before.source.waited before.sink.written b r;
     ends = left_as l' after.drive tied;
     queue = record { given = given_by l'; queue = ties.queue };
   }

@@ -35,11 +35,12 @@ IsServedBefore form limit why before after = Serves (RanBefore form limit why) b
 abbrev pub IsServedInPart : Form → ℕ → Moment → Moment → Type 0
 IsServedInPart form limit before after = Serves (RanInPart form limit) before after
 
--- nothing was read or written; the drive stays as it was, but for entries that its sectors may be left with, and, where its
--- link was lost meanwhile, for what that does; each sector reads as before; it was not unplugged, no order bytes were handed
--- in to it, and it was called once at most (profile)
+-- nothing was read, waited for or written; the drive stays as it was, but for entries that its sectors may be left with, and,
+-- where its link was lost meanwhile, for what that does; each sector reads as before; it was not unplugged, no order bytes were
+-- handed in to it, and it was called once at most (profile)
 pub record IsNotServed (before after : Moment) : Type 0 where
   pub read : after.source.left ≡ before.source.left
+  pub waits : after.source.waited ≡ before.source.waited
   pub wrote : after.sink.written ≡ before.sink.written
   pub undisturbed : IsUndisturbed before.drive after.drive
   pub nows : map (λ c. c.now) after.drive.cells ≡ map (λ c. c.now) before.drive.cells
@@ -56,7 +57,7 @@ IsStopped form limit before after faults.Write = IsServedInPart form limit befor
 
 -- what the result of serving says, whatever it gives of an input that was served up to END (profile): what holds by the fault,
 -- and why it is that one; a drive whose data are refused is told so, unless there was no memory; and a good input is served up
--- to END where all goes well, and no byte behind it is read
+-- to END where all goes well, and no byte behind it is read or waited for
 pub record ResultSays {A : Type 0} (form : Form) (limit : ℕ) (before after : Moment)
     (result : Result A ServeFault) : Type 0 where
   pub stopped : IfErr result (IsStopped form limit before after)

@@ -84,13 +84,14 @@ pub record ReadBefore (newest : Version) (limit : ℕ) (left left' : Option (Lis
   pub read : HasRead reader left mid events
   pub blames : Blames reader mid left' why
 
--- frames up to END were read and no byte behind them; the output of a run over exactly these was written; and the drive had at
--- once as many commands as the device let it have (profile)
+-- frames up to END were read, and no byte behind them was read or waited for; the output of a run over exactly these was
+-- written; and the drive had at once as many commands as the device let it have (profile)
 pub record RanWhole (form : Form) (limit : ℕ) (before after : Spot) : Type 0 where
   pub events : List Frame
   pub groups : List (List Answer)
   pub place : Place
   pub read : ReadTo limit Two place before.left after.left (events ++ frames.End ∷ [])
+  pub unwaited : after.waited ≡ false
   pub wrote : Wrote before.written after.written (output form (joined groups))
   pub run : RunSoFar before.stand after.stand (events ++ frames.End ∷ []) groups
   pub deep : run.deep ≤ after.stand.tally.deepest
@@ -104,14 +105,16 @@ pub record RanBefore (form : Form) (limit : ℕ) (why : FrameFault) (before afte
   pub wrote : Wrote before.written after.written (output form (joined groups) ++ told_of form why)
   pub run : RunSoFar before.stand after.stand events groups
 
--- nothing was read, and a front of what stands before all answers was written (profile)
+-- nothing was read or waited for, and a front of what stands before all answers was written (profile)
 pub record BrokeInMagic (form : Form) (before after : Spot) : Type 0 where
   pub read : after.left ≡ before.left
+  pub waits : after.waited ≡ before.waited
   pub part : WrotePart before.written after.written (begun form)
   pub run : RunSoFar before.stand after.stand [] []
 
--- frames were read, the last one was carried out or cut short behind one of its turns, and those before it, none of which is
--- END, were carried out; what is due before it was written whole, and of its answers a front (profile)
+-- frames were read, and no byte behind them was waited for; the last one was carried out or cut short behind one of its turns,
+-- and those before it, none of which is END, were carried out; what is due before it was written whole, and of its answers a
+-- front (profile)
 pub record BrokeInAnswers (form : Form) (limit : ℕ) (before after : Spot) : Type 0 where
   pub events : List Frame
   pub groups : List (List Answer)
@@ -123,6 +126,7 @@ pub record BrokeInAnswers (form : Form) (limit : ℕ) (before after : Spot) : Ty
   pub newest_is : reader.newest ≡ Two
   pub none_ends : NoneEnds events
   pub read : HasRead reader before.left after.left (events ++ event ∷ [])
+  pub unwaited : after.waited ≡ false
   pub wrote : Wrote before.written behind (output form (joined groups))
   pub part : WrotePart behind after.written (answers_told form answers)
   pub run : RunCutSoFar before.stand after.stand (events ++ event ∷ []) (groups ++ answers ∷ [])

@@ -69,14 +69,14 @@ impl From<OpenFault> for ServeFault {
 
 /// Serves an input of frames: opens the layer on the drive, and carries out one frame after the other up to END, which ends it.
 /// The drive has nothing outstanding and is in no error state, and its IDENTIFY DEVICE data fit it. Answers are written in the
-/// form, each before the next frame is read; before frames stands the magic of the output. `Open`: the layer was not opened,
-/// for the reason told, and nothing was read or written; refused IDENTIFY DEVICE data are told, but for a lost link and want of
-/// memory. `BadInput` comes after its FAULT frame or line was written, with the reason and the offset of the refused frame in
-/// bytes. `Read` and `Write` come only where the source's or the sink's count of faults rose. An input that can be read to END
-/// ends so, or by want of memory or a lost link before anything is read, where neither the source's nor the sink's count of
-/// faults rises and the drive is not refused. It gives the totals of the whole input. The drive is called at most once for its
-/// identity, 1,089 times for each request and 33 times for each task management function, in sum; those between an UNPLUG and the
-/// next POWER add none (profile).
+/// form, each before the next frame is read or waited for; before frames stands the magic of the output. `Open`: the layer was
+/// not opened, for the reason told, and nothing was read or written; refused IDENTIFY DEVICE data are told, but for a lost link
+/// and want of memory. `BadInput` comes after its FAULT frame or line was written, with the reason and the offset of the refused
+/// frame in bytes. `Read` and `Write` come only where the source's or the sink's count of faults rose. An input that can be read
+/// to END ends so, or by want of memory or a lost link before anything is read, where neither the source's nor the sink's count
+/// of faults rises and the drive is not refused. It gives the totals of the whole input. The drive is called at most once for its
+/// identity, 1,089 times for each request and 33 times for each task management function, in sum; those between an UNPLUG and
+/// the next POWER add none (profile).
 pub fn serve<S: Source, K: Sink, D: Bench<L>, L: Ledger>(
     alloc: Global,
     form: Form,
@@ -87,14 +87,18 @@ pub fn serve<S: Source, K: Sink, D: Bench<L>, L: Ledger>(
 ) -> Result<Summary, ServeFault>
     requires { IsFree (D.state drive.old) }
     ensures served { IfOk result (λ summary. IsServedWhole form input_limit summary
-        (moment (source_state (S.left source.old) (S.faults source.old)) (sink_state (K.written sink.old) (K.faults sink.old))
+        (moment (source_state (S.left source.old) (S.waited source.old) (S.faults source.old))
+        (sink_state (K.written sink.old) (K.faults sink.old))
         steps.old (D.state drive.old))
-        (moment (source_state (S.left source.new) (S.faults source.new)) (sink_state (K.written sink.new) (K.faults sink.new))
+        (moment (source_state (S.left source.new) (S.waited source.new) (S.faults source.new))
+        (sink_state (K.written sink.new) (K.faults sink.new))
         steps.new (D.state drive.new))) }
     ensures says { ResultSays form input_limit
-        (moment (source_state (S.left source.old) (S.faults source.old)) (sink_state (K.written sink.old) (K.faults sink.old))
+        (moment (source_state (S.left source.old) (S.waited source.old) (S.faults source.old))
+        (sink_state (K.written sink.old) (K.faults sink.old))
         steps.old (D.state drive.old))
-        (moment (source_state (S.left source.new) (S.faults source.new)) (sink_state (K.written sink.new) (K.faults sink.new))
+        (moment (source_state (S.left source.new) (S.waited source.new) (S.faults source.new))
+        (sink_state (K.written sink.new) (K.faults sink.new))
         steps.new (D.state drive.new)) result }
 {
     let mut counter = Counter::new(form);
@@ -114,14 +118,18 @@ pub fn serve_uncounted<S: Source, K: Sink, D: Bench<L>, L: Ledger>(
 ) -> Result<(), ServeFault>
     requires { IsFree (D.state drive.old) }
     ensures served { IfOk result (λ _. IsServedToEnd form input_limit
-        (moment (source_state (S.left source.old) (S.faults source.old)) (sink_state (K.written sink.old) (K.faults sink.old))
+        (moment (source_state (S.left source.old) (S.waited source.old) (S.faults source.old))
+        (sink_state (K.written sink.old) (K.faults sink.old))
         steps.old (D.state drive.old))
-        (moment (source_state (S.left source.new) (S.faults source.new)) (sink_state (K.written sink.new) (K.faults sink.new))
+        (moment (source_state (S.left source.new) (S.waited source.new) (S.faults source.new))
+        (sink_state (K.written sink.new) (K.faults sink.new))
         steps.new (D.state drive.new))) }
     ensures says { ResultSays form input_limit
-        (moment (source_state (S.left source.old) (S.faults source.old)) (sink_state (K.written sink.old) (K.faults sink.old))
+        (moment (source_state (S.left source.old) (S.waited source.old) (S.faults source.old))
+        (sink_state (K.written sink.old) (K.faults sink.old))
         steps.old (D.state drive.old))
-        (moment (source_state (S.left source.new) (S.faults source.new)) (sink_state (K.written sink.new) (K.faults sink.new))
+        (moment (source_state (S.left source.new) (S.waited source.new) (S.faults source.new))
+        (sink_state (K.written sink.new) (K.faults sink.new))
         steps.new (D.state drive.new)) result }
 {
     serve_by(
@@ -149,14 +157,18 @@ fn serve_by<T: Teller, S: Source, K: Sink, D: Bench<L>, L: Ledger>(
     requires tells { TellsIn T.told T.behind form teller.old }
     requires free { IsFree (D.state drive.old) }
     ensures served { IfOk result (λ requests. IsServedBy T.behind form input_limit teller.old teller.new requests
-        (moment (source_state (S.left source.old) (S.faults source.old)) (sink_state (K.written sink.old) (K.faults sink.old))
+        (moment (source_state (S.left source.old) (S.waited source.old) (S.faults source.old))
+        (sink_state (K.written sink.old) (K.faults sink.old))
         steps.old (D.state drive.old))
-        (moment (source_state (S.left source.new) (S.faults source.new)) (sink_state (K.written sink.new) (K.faults sink.new))
+        (moment (source_state (S.left source.new) (S.waited source.new) (S.faults source.new))
+        (sink_state (K.written sink.new) (K.faults sink.new))
         steps.new (D.state drive.new))) }
     ensures says { ResultSays form input_limit
-        (moment (source_state (S.left source.old) (S.faults source.old)) (sink_state (K.written sink.old) (K.faults sink.old))
+        (moment (source_state (S.left source.old) (S.waited source.old) (S.faults source.old))
+        (sink_state (K.written sink.old) (K.faults sink.old))
         steps.old (D.state drive.old))
-        (moment (source_state (S.left source.new) (S.faults source.new)) (sink_state (K.written sink.new) (K.faults sink.new))
+        (moment (source_state (S.left source.new) (S.waited source.new) (S.faults source.new))
+        (sink_state (K.written sink.new) (K.faults sink.new))
         steps.new (D.state drive.new)) result }
 {
     let mut satl = Satl::open(alloc, drive, steps)?;
@@ -183,13 +195,16 @@ fn serve_opened<T: Teller, S: Source, K: Sink, D: Bench<L>, L: Ledger>(
     requires deep { IsDeep (tally_of (D.state drive.old) steps.old) }
     ensures tied { Tied satl.new (D.state drive.new) }
     ensures whole { IfOk result (λ requests. RanBy T.behind form input_limit teller.old teller.new requests
-        (spot (S.left source.old) (K.written sink.old) (stand_of satl.old (D.state drive.old) steps.old))
-        (spot (S.left source.new) (K.written sink.new) (stand_of satl.new (D.state drive.new) steps.new))) }
+        (spot (S.left source.old) (S.waited source.old) (K.written sink.old) (stand_of satl.old (D.state drive.old) steps.old))
+        (spot (S.left source.new) (S.waited source.new) (K.written sink.new)
+        (stand_of satl.new (D.state drive.new) steps.new))) }
     ensures stopped { IfErr result (RanTo form input_limit
-        (spot (S.left source.old) (K.written sink.old) (stand_of satl.old (D.state drive.old) steps.old))
-        (spot (S.left source.new) (K.written sink.new) (stand_of satl.new (D.state drive.new) steps.new))) }
-    ensures causes { IfErr result (HasStreamCause (source_state (S.left source.old) (S.faults source.old))
-        (source_state (S.left source.new) (S.faults source.new)) (sink_state (K.written sink.old) (K.faults sink.old))
+        (spot (S.left source.old) (S.waited source.old) (K.written sink.old) (stand_of satl.old (D.state drive.old) steps.old))
+        (spot (S.left source.new) (S.waited source.new) (K.written sink.new)
+        (stand_of satl.new (D.state drive.new) steps.new))) }
+    ensures causes { IfErr result (HasStreamCause (source_state (S.left source.old) (S.waited source.old) (S.faults source.old))
+        (source_state (S.left source.new) (S.waited source.new) (S.faults source.new))
+        (sink_state (K.written sink.old) (K.faults sink.old))
         (sink_state (K.written sink.new) (K.faults sink.new))) }
 {
     tell_beginning(form, sink)?;

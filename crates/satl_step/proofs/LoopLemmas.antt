@@ -1,6 +1,6 @@
 -- Frames that a reader gives, one after the other.
 use Rattle.std.proofs.Common.{◌≡◌, ◌⊎◌, ◌^◌, min, inl, inr, refl, sym, ap, subst, ◌∙◌, arith, ℕ, ◌+◌, ◌-◌, ◌*◌, ◌<◌, ◌≤◌, true, false, List, [], ◌∷◌, ◌++◌, length, take}
-use Rattle.std.specs.Prelude.{Option, Some, None, nat_lt}
+use Rattle.std.specs.Prelude.{Bool, Option, Some, None, nat_lt}
 use Rattle.std.proofs.lemmas.Bool.{ltb-true, ltb-false}
 use Rattle.std.proofs.lemmas.List.{take_all, length-take-le}
 use Rattle.satl_base.specs.declared.request.Request.{Request}
@@ -8,12 +8,13 @@ use Rattle.satl_base.proofs.ListsLemmas.{how_many-push}
 use Rattle.satl_frame.specs.Frames.{HasExpected, IsFrame, IsRequest, data_out, spelled}
 use Rattle.satl_frame.specs.Output.{Answer}
 use Rattle.satl_frame.specs.Pulls.{cut_to, frame_pages}
-use Rattle.satl_frame.specs.Reading.{Gave, IsNext, Reading}
+use Rattle.satl_frame.specs.Reading.{Blames, Gave, IsNext, Reading}
 use Rattle.satl_frame.specs.declared.frames.Place.{Place}
 use Rattle.satl_frame.specs.declared.frames.Version.{Version}
 use Rattle.satl_frame.specs.declared.frames.Version.TheVariants.{One, Two}
 use Rattle.satl_frame.specs.declared.frames.Frame.{Frame}
 use Rattle.satl_frame.specs.declared.frames.Frame.TheVariants as frames
+use Rattle.satl_frame.specs.declared.frames.FrameFault.{FrameFault}
 use Rattle.satl_frame.proofs.Paging.{length-pages_of}
 use Rattle.satl_frame.proofs.ProgressLemmas.{has_read_more}
 use Rattle.satl_line.proofs.SlotsLemmas.{All-append}
@@ -23,7 +24,7 @@ use Rattle.satl_direct.proofs.Quieting.{joined-push}
 use Rattle.satl_base.specs.Limits.{IsExpectable}
 use Rattle.satl_core.specs.Submitting.{CanSubmit}
 use Rattle.satl_step.specs.Events.{CanTake, Done, DoneInPart}
-use Rattle.satl_step.specs.Loop.{Going, HasGiven, LoopState, ReachedEnd, SoFar, StoppedInAnswers, is_end, place_offset}
+use Rattle.satl_step.specs.Loop.{Going, HasGiven, LoopState, ReachedEnd, Refused, SoFar, StoppedInAnswers, is_end, place_offset}
 use Rattle.satl_step.specs.Runs.{is_request, requests_in}
 use Rattle.satl_step.specs.Telling.{IsTold}
 use Rattle.satl_step.proofs.TellingLemmas.{told_more, told_none}
@@ -138,6 +139,27 @@ module _ {T : Type 0} (told : T → Answer → List ℕ) (behind : T → Answer 
   pub lent : (a b : LoopState T) (s : Device) (n : ℕ) → s ≡ b.scene.stand.device → Going told behind a b n → Going told behind a (record b { scene = record b.scene { stand = record b.scene.stand { device = s } } }) n
   lent a b s n same going = subst (λ (x : Device). Going told behind a (record b { scene = record b.scene { stand = record b.scene.stand { device = x } } }) n) (sym same) going
 
+  -- whether a byte was waited for is not seen in what was carried out
+  unseen : (a b : LoopState T) (n : ℕ) (waited : Bool) → Going told behind a b n → Going told behind a (record b { waited = waited }) n
+  unseen a b n waited going =
+      let s = going.so_far in
+      record {
+        so_far = record { events = s.events; groups = s.groups; given = record { limit = s.given.limit; newest = s.given.newest; read = s.given.read }; told_so = s.told_so; run = s.run; requests_are = s.requests_are };
+        none_ends = going.none_ends;
+      }
+
+  -- what follows was refused or not read
+  pub refused : (a b : LoopState T) (n : ℕ) (reader : Reading) (left : Option (List ℕ)) (waited : Bool) (why : FrameFault) → Going told behind a b n → Blames b.reader b.left left why → reader ≡ record b.reader { refused = Some why } → Refused told behind a (record b { reader = reader; left = left; waited = waited }) why
+  unfolding unseen
+  refused a b n reader left waited why going blames repeats = record {
+    reader = b.reader;
+    mid = b.left;
+    requests = n;
+    going = unseen a b n waited going;
+    blames = blames;
+    repeats = repeats;
+  }
+
   given_more : (a b c : LoopState T) (n room : ℕ) (frame : Frame) (going : Going told behind a b n) → (gave : Gave b.reader room frame c.reader b.left c.left) → HasGiven a c (going.so_far.events ++ gave.whole ∷ [])
   given_more a b c n room frame going gave = record {
     limit = ap (λ (r : Reading). r.limit) gave.new_is ∙ going.so_far.given.limit;
@@ -167,23 +189,25 @@ module _ {T : Type 0} (told : T → Answer → List ℕ) (behind : T → Answer 
     }
 
     -- the last one is END
-    pub ended : is_end frame ≡ true → Going told behind a b n → (gave : Gave b.reader room frame c.reader b.left c.left) → Done told behind frame b.scene c.scene → m ≡ min (n + requests_in (frame ∷ [])) (2 ^ 64 - 1) → ReachedEnd told behind a c m
+    pub ended : is_end frame ≡ true → Going told behind a b n → (gave : Gave b.reader room frame c.reader b.left c.left) → Done told behind frame b.scene c.scene → m ≡ min (n + requests_in (frame ∷ [])) (2 ^ 64 - 1) → c.waited ≡ false → ReachedEnd told behind a c m
     unfolding so_far_more
-    ended last going gave done count = record {
+    ended last going gave done count unwaited = record {
       so_far = so_far_more going gave done count;
       earlier = going.so_far.events;
       ends = ap (λ f. going.so_far.events ++ f ∷ []) (the_end gave.whole (whole_end room frame gave.whole gave.cut ∙ last));
+      unwaited = unwaited;
     }
 
     -- the last one was told in part
-    pub part_more : Going told behind a b n → (gave : Gave b.reader room frame c.reader b.left c.left) → DoneInPart told behind frame b.scene c.scene → StoppedInAnswers told behind a c
-    part_more going gave done = record {
+    pub part_more : Going told behind a b n → (gave : Gave b.reader room frame c.reader b.left c.left) → DoneInPart told behind frame b.scene c.scene → c.waited ≡ false → StoppedInAnswers told behind a c
+    part_more going gave done unwaited = record {
       mid = b;
       requests = n;
       going = going;
       event = gave.whole;
       answers = done.answers;
       given = given_more a b c n room frame going gave;
+      unwaited = unwaited;
       told_so = done.told_so;
       run = run_cut a.scene.stand b.scene.stand c.scene.stand going.so_far.events going.so_far.groups frame gave.whole done.answers going.so_far.run (record { room = room; cut = gave.cut }) done.carried done.tallied;
     }

@@ -27,14 +27,16 @@ abbrev pub place_offset : Option Place → ℕ
 place_offset None = 0
 place_offset (Some place) = place.offset
 
--- a reader, what is left to read, and the scene that its frames are carried out on (profile)
+-- a reader, what is left to read, whether the source has waited for a byte that it has not given, and the scene that its
+-- frames are carried out on (profile)
 pub record LoopState (T : Type 0) : Type 0 where
   pub reader : Reading
   pub left : Option (List ℕ)
+  pub waited : Bool
   pub scene : Scene T
 
-abbrev pub loop_state : {T : Type 0} → Reading → Option (List ℕ) → Scene T → LoopState T
-loop_state reader left scene = record { reader = reader; left = left; scene = scene }
+abbrev pub loop_state : {T : Type 0} → Reading → Option (List ℕ) → Bool → Scene T → LoopState T
+loop_state reader left waited scene = record { reader = reader; left = left; waited = waited; scene = scene }
 
 -- the reader is the same but for where it stands, and has given these frames (profile)
 pub record HasGiven {T : Type 0} (before after : LoopState T) (events : List Frame) : Type 0 where
@@ -58,12 +60,13 @@ pub record Going {T : Type 0} (told : T → Answer → List ℕ) (behind : T →
   pub so_far : SoFar told behind before after requests
   pub none_ends : NoneEnds so_far.events
 
--- the same, and the last of them is END (profile)
+-- the same, the last of them is END, and no byte behind it was waited for (profile)
 pub record ReachedEnd {T : Type 0} (told : T → Answer → List ℕ) (behind : T → Answer → T) (before after : LoopState T)
     (requests : ℕ) : Type 0 where
   pub so_far : SoFar told behind before after requests
   pub earlier : List Frame
   pub ends : so_far.events ≡ earlier ++ frames.End ∷ []
+  pub unwaited : after.waited ≡ false
 
 -- frames were carried out, none of which is END, and what follows them was refused or not read, which the reader repeats from
 -- then on (profile)
@@ -77,7 +80,7 @@ pub record Refused {T : Type 0} (told : T → Answer → List ℕ) (behind : T �
   pub repeats : after.reader ≡ record reader { refused = Some why }
 
 -- frames were carried out, none of which is END, and their answers were told; then one frame more was read, which was carried
--- out or cut short, and a front of its answers was told (profile)
+-- out or cut short, and a front of its answers was told before a byte behind it was waited for (profile)
 pub record StoppedInAnswers {T : Type 0} (told : T → Answer → List ℕ) (behind : T → Answer → T)
     (before after : LoopState T) : Type 0 where
   pub mid : LoopState T
@@ -86,6 +89,7 @@ pub record StoppedInAnswers {T : Type 0} (told : T → Answer → List ℕ) (beh
   pub event : Frame
   pub answers : List Answer
   pub given : HasGiven before after (going.so_far.events ++ event ∷ [])
+  pub unwaited : after.waited ≡ false
   pub told_so : IsToldInPart told behind mid.scene.telling after.scene.telling answers
   pub run : RunCutSoFar before.scene.stand after.scene.stand (going.so_far.events ++ event ∷ [])
       (going.so_far.groups ++ answers ∷ [])

@@ -44,10 +44,10 @@ fn count_request(requests: u64, frame: &Frame<'_>) -> u64
     }
 }
 
-/// Carries out the frames of an input up to END on one unit, and tells the answers of each before it reads the next. Gives the
-/// number of requests, which stands still at 2^64 - 1. The reader has given no frame, and the unit has no task. `Refused`: the
-/// next frame is refused, which is told to nobody, or a read failed, where the source's count of faults rose. `Write` comes
-/// only where the sink's count rose; else no page of the layer is out at the end (profile).
+/// Carries out the frames of an input up to END on one unit, and tells the answers of each before it reads the next, or waits
+/// for it. Gives the number of requests, which stands still at 2^64 - 1. The reader has given no frame, and the unit has no
+/// task. `Refused`: the next frame is refused, which is told to nobody, or a read failed, where the source's count of faults
+/// rose. `Write` comes only where the sink's count rose; else no page of the layer is out at the end (profile).
 pub fn serve_frames<S: Source, T: Teller, K: Sink, D: Bench<L>, L: Ledger>(
     alloc: Global,
     reader: &mut FrameReader,
@@ -66,9 +66,9 @@ pub fn serve_frames<S: Source, T: Teller, K: Sink, D: Bench<L>, L: Ledger>(
     ensures tied { Tied satl.new (D.state drive.new) }
     ensures all_in { AreAllIn satl.new.out result }
     ensures ran { Ran T.told T.behind
-        (loop_state reader.old (S.left source.old)
+        (loop_state reader.old (S.left source.old) (S.waited source.old)
         (scene_of satl.old (D.state drive.old) steps.old teller.old (K.written sink.old)))
-        (loop_state reader.new (S.left source.new)
+        (loop_state reader.new (S.left source.new) (S.waited source.new)
         (scene_of satl.new (D.state drive.new) steps.new teller.new (K.written sink.new))) result }
     ensures causes { IfErr result (HasStopCause (S.faults source.old) (S.faults source.new) (K.faults sink.old)
         (K.faults sink.new)) }

@@ -1,5 +1,5 @@
 -- How a load ends.
-use Rattle.std.proofs.Common.{◌≡◌, ◌≤◌, ◌⊎◌, inl, inr, ℕ, List, [], refl, sym, subst, ap, ◌∙◌, arith}
+use Rattle.std.proofs.Common.{◌≡◌, ◌≤◌, ◌⊎◌, inl, inr, ℕ, false, List, [], refl, sym, subst, ap, ◌∙◌, arith}
 use Rattle.std.specs.Prelude.{Option, Some, Ok, Err, Result, IfErr, IfOk, MatchResult}
 use Rattle.satl_base.specs.Limits.{input_limit}
 use Rattle.satl_io.specs.Causes.{Rose}
@@ -35,14 +35,14 @@ good_input load made is few = record { input = generated load.seed load.requests
 
 module _ (load : Load) (made : List ℕ) (left : Option (List ℕ)) (calls calls' : ℕ) (old new : DriveState) where
   abbrev begins : Moment
-  begins = moment (source_state (Some made) 0) nowhere calls old
+  begins = moment (source_state (Some made) false 0) nowhere calls old
 
   abbrev ends : Moment
-  ends = moment (source_state left 0) nowhere calls' new
+  ends = moment (source_state left false 0) nowhere calls' new
 
   stops_so : (fault : ServeFault) → IsStopped forms.Count input_limit begins ends fault → HasServeCause begins ends fault → (GoesWell begins ends → MayStop begins ends fault) → (source : SourceState) (sink : SinkState) → LoadStops (moment source sink calls old) (moment source sink calls' new) fault
   stops_so (faults.Open fault) n cause may source sink =
-      (record { read = refl; wrote = refl; undisturbed = n.undisturbed; nows = n.nows; unplugs = n.unplugs; orders = n.orders; one_call = n.one_call }, cause)
+      (record { read = refl; waits = refl; wrote = refl; undisturbed = n.undisturbed; nows = n.nows; unplugs = n.unplugs; orders = n.orders; one_call = n.one_call }, cause)
   stops_so (faults.BadInput reason offset) served cause may source sink =
       may (record { identity = served.first.identity; accepted = served.begins.identity; reads = never_rose; writes = never_rose })
   stops_so faults.Read served cause may source sink = never_rose cause
@@ -55,7 +55,7 @@ module _ (load : Load) (made : List ℕ) (left : Option (List ℕ)) (calls calls
       stops_so fault stopped cause (complete (generated_frames load.seed load.requests) [] (good_input load made is few))
 
   -- what was served whole was the generated frames, with their number
-  all_served : load.requests ≤ 100000 → (summary : Summary) → IsServedWhole forms.Count input_limit summary (moment (source_state (input_of load) 0) nowhere calls old) ends → (source : SourceState) (sink sink' : SinkState)
+  all_served : load.requests ≤ 100000 → (summary : Summary) → IsServedWhole forms.Count input_limit summary (moment (source_state (input_of load) false 0) nowhere calls old) ends → (source : SourceState) (sink sink' : SinkState)
       → IsLoaded input_limit load summary (moment source sink calls old) (moment source sink' calls' new)
   all_served few summary served source sink sink' =
       let run = served.to_end.run in
@@ -71,7 +71,7 @@ module _ (load : Load) (made : List ℕ) (left : Option (List ℕ)) (calls calls
   pub is_loaded : made ≡ generated load.seed load.requests → load.requests ≤ 100000 → (r : Result Summary ServeFault) → IfOk r (λ summary. IsServedWhole forms.Count input_limit summary begins ends)
       → IfOk r (λ summary. (source : SourceState) (sink sink' : SinkState) → IsLoaded input_limit load summary (moment source sink calls old) (moment source sink' calls' new))
   is_loaded is few (Err fault) served = tt
-  is_loaded is few (Ok summary) served = all_served few summary (subst (λ m. IsServedWhole forms.Count input_limit summary (moment (source_state (Some m) 0) nowhere calls old) ends) is served)
+  is_loaded is few (Ok summary) served = all_served few summary (subst (λ m. IsServedWhole forms.Count input_limit summary (moment (source_state (Some m) false 0) nowhere calls old) ends) is served)
 
 -- the status of such a fault says so
 pub stop_ends : (limit : ℕ) (load : Load) (before after : Moment) (fault : ServeFault) (status : Status) → status ≡ status_of fault → LoadStops before after fault → LoadEnds limit load before after status

@@ -1,5 +1,5 @@
 -- What a load does: it serves a generated input, whose answers are counted alone, and writes the totals (profile).
-use Rattle.std.specs.Prelude.{◌≡◌, ℕ, List, Option, None, Some}
+use Rattle.std.specs.Prelude.{◌≡◌, ℕ, List, false, Option, None, Some}
 use Rattle.satl_io.specs.Known.{Wrote, WrotePart}
 use Rattle.satl_core.specs.Opening.{IsCause}
 use Rattle.satl_text.specs.Lines.{summary_lines}
@@ -29,9 +29,9 @@ input_of load = Some (generated load.seed load.requests)
 abbrev pub nowhere : SinkState
 nowhere = sink_state None 0
 
--- a moment of a load: this is left of its generated input, and its answers go nowhere (profile)
+-- a moment of a load: this is left of its generated input, for which nobody waits, and its answers go nowhere (profile)
 abbrev pub at_load : Option (List ℕ) → Moment → Moment
-at_load left m = moment (source_state left 0) nowhere m.calls m.drive
+at_load left m = moment (source_state left false 0) nowhere m.calls m.drive
 
 -- a generated input was served whole within this limit: the run was one over the generated frames and END, with these totals,
 -- which say as many requests as were asked for; and the source that was handed in was not read (profile)

@@ -25,9 +25,11 @@ pub fn bridge<S: Source, K: Sink, D: Bench<L>, L: Ledger>(
 ) -> Status
     requires { IsFree (D.state drive.old) }
     ensures { HasBridged input_limit
-        (moment (source_state (S.left source.old) (S.faults source.old)) (sink_state (K.written sink.old) (K.faults sink.old))
+        (moment (source_state (S.left source.old) (S.waited source.old) (S.faults source.old))
+        (sink_state (K.written sink.old) (K.faults sink.old))
         steps.old (D.state drive.old))
-        (moment (source_state (S.left source.new) (S.faults source.new)) (sink_state (K.written sink.new) (K.faults sink.new))
+        (moment (source_state (S.left source.new) (S.waited source.new) (S.faults source.new))
+        (sink_state (K.written sink.new) (K.faults sink.new))
         steps.new (D.state drive.new)) result }
 {
     match serve_usb(alloc, source, sink, drive, steps) {

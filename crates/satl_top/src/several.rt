@@ -50,10 +50,10 @@ pub fn fleet<S: Source, K: Sink, D: Bench<L>, L: Ledger>(
     requires few { vec_len drives.old ≤ 4 }
     requires free { AllByRecursion IsFree (map D.state drives.old.items) }
     ensures { HasServedFleet (map rc_str_bytes words.now) input_limit
-        (fleet_moment (source_state (S.left source.old) (S.faults source.old))
+        (fleet_moment (source_state (S.left source.old) (S.waited source.old) (S.faults source.old))
         (sink_state (K.written sink.old) (K.faults sink.old))
         steps.old (map D.state drives.old.items))
-        (fleet_moment (source_state (S.left source.new) (S.faults source.new))
+        (fleet_moment (source_state (S.left source.new) (S.waited source.new) (S.faults source.new))
         (sink_state (K.written sink.new) (K.faults sink.new))
         steps.new (map D.state drives.new.items)) result }
 {
@@ -81,10 +81,10 @@ pub fn program<S: Source, K: Sink, D: Bench<L>, L: Ledger>(
     requires few { vec_len drives.old ≤ 4 }
     requires free { AllByRecursion IsFree (map D.state drives.old.items) }
     ensures { HasDone (map rc_str_bytes words.now) input_limit
-        (fleet_moment (source_state (S.left source.old) (S.faults source.old))
+        (fleet_moment (source_state (S.left source.old) (S.waited source.old) (S.faults source.old))
         (sink_state (K.written sink.old) (K.faults sink.old))
         steps.old (map D.state drives.old.items))
-        (fleet_moment (source_state (S.left source.new) (S.faults source.new))
+        (fleet_moment (source_state (S.left source.new) (S.waited source.new) (S.faults source.new))
         (sink_state (K.written sink.new) (K.faults sink.new))
         steps.new (map D.state drives.new.items)) result }
 {

@@ -41,17 +41,21 @@ pub fn satl<S: Source, K: Sink, D: Bench<L>, L: Ledger>(
     requires { IsFree (D.state drive.old) }
     ensures plain { (mode : Mode) → IsInRange mode → ArePlain (map rc_str_bytes words.now) mode
         → HasCarriedOut mode input_limit
-        (moment (source_state (S.left source.old) (S.faults source.old)) (sink_state (K.written sink.old) (K.faults sink.old))
+        (moment (source_state (S.left source.old) (S.waited source.old) (S.faults source.old))
+        (sink_state (K.written sink.old) (K.faults sink.old))
         steps.old (D.state drive.old))
-        (moment (source_state (S.left source.new) (S.faults source.new)) (sink_state (K.written sink.new) (K.faults sink.new))
+        (moment (source_state (S.left source.new) (S.waited source.new) (S.faults source.new))
+        (sink_state (K.written sink.new) (K.faults sink.new))
         steps.new (D.state drive.new)) result }
     ensures usage { (result ≡ Status.Usage) → AreRefused (map rc_str_bytes words.now) }
     ensures refused { AreRefused (map rc_str_bytes words.now) → (result ≡ Status.Usage) ⊎ (result ≡ Status.NoMemory) }
     ensures takes { (result ≡ Status.Usage) → (takes command_line (map rc_str_bytes words.now) ≡ true) → ⊥ }
     ensures outcome { OutcomeByWords (map rc_str_bytes words.now) input_limit
-        (moment (source_state (S.left source.old) (S.faults source.old)) (sink_state (K.written sink.old) (K.faults sink.old))
+        (moment (source_state (S.left source.old) (S.waited source.old) (S.faults source.old))
+        (sink_state (K.written sink.old) (K.faults sink.old))
         steps.old (D.state drive.old))
-        (moment (source_state (S.left source.new) (S.faults source.new)) (sink_state (K.written sink.new) (K.faults sink.new))
+        (moment (source_state (S.left source.new) (S.waited source.new) (S.faults source.new))
+        (sink_state (K.written sink.new) (K.faults sink.new))
         steps.new (D.state drive.new)) result }
 {
     match mode_asked(alloc, words) {
@@ -73,9 +77,11 @@ fn carry_out<S: Source, K: Sink, D: Bench<L>, L: Ledger>(
     requires range { IsInRange mode }
     requires free { IsFree (D.state drive.old) }
     ensures { HasCarriedOut mode input_limit
-        (moment (source_state (S.left source.old) (S.faults source.old)) (sink_state (K.written sink.old) (K.faults sink.old))
+        (moment (source_state (S.left source.old) (S.waited source.old) (S.faults source.old))
+        (sink_state (K.written sink.old) (K.faults sink.old))
         steps.old (D.state drive.old))
-        (moment (source_state (S.left source.new) (S.faults source.new)) (sink_state (K.written sink.new) (K.faults sink.new))
+        (moment (source_state (S.left source.new) (S.waited source.new) (S.faults source.new))
+        (sink_state (K.written sink.new) (K.faults sink.new))
         steps.new (D.state drive.new)) result }
 {
     match mode {
@@ -98,9 +104,11 @@ fn serve_input<S: Source, K: Sink, D: Bench<L>, L: Ledger>(
 ) -> Status
     requires { IsFree (D.state drive.old) }
     ensures { HasServed form input_limit
-        (moment (source_state (S.left source.old) (S.faults source.old)) (sink_state (K.written sink.old) (K.faults sink.old))
+        (moment (source_state (S.left source.old) (S.waited source.old) (S.faults source.old))
+        (sink_state (K.written sink.old) (K.faults sink.old))
         steps.old (D.state drive.old))
-        (moment (source_state (S.left source.new) (S.faults source.new)) (sink_state (K.written sink.new) (K.faults sink.new))
+        (moment (source_state (S.left source.new) (S.waited source.new) (S.faults source.new))
+        (sink_state (K.written sink.new) (K.faults sink.new))
         steps.new (D.state drive.new)) result }
 {
     match serve_uncounted(alloc, form, source, sink, drive, steps) {

@@ -10,7 +10,7 @@ invariant-frames g l = record {
   all_in : l.satl.out ≡ 0;
   none : l.replies ≡ [];
   fresh : l.reader.refused ≡ None;
-  going : Going g.T.Teller.told g.T.Teller.behind (loop_state l.fn.reader (g.S.Source.left l.fn.source) (scene_of l.fn.satl (g.D.Drive.state l.fn.drive) l.fn.steps l.fn.teller (g.K.Sink.written l.fn.sink))) (loop_state l.reader (g.S.Source.left l.source) (scene_of l.satl (g.D.Drive.state l.drive) l.steps l.teller (g.K.Sink.written l.sink))) l.requests;
+  going : Going g.T.Teller.told g.T.Teller.behind (loop_state l.fn.reader (g.S.Source.left l.fn.source) (g.S.Source.waited l.fn.source) (scene_of l.fn.satl (g.D.Drive.state l.fn.drive) l.fn.steps l.fn.teller (g.K.Sink.written l.fn.sink))) (loop_state l.reader (g.S.Source.left l.source) (g.S.Source.waited l.source) (scene_of l.satl (g.D.Drive.state l.drive) l.steps l.teller (g.K.Sink.written l.sink))) l.requests;
   read_later : g.S.Source.faults l.fn.source ≤ g.S.Source.faults l.source;
   write_later : g.K.Sink.faults l.fn.sink ≤ g.K.Sink.faults l.sink;
 }

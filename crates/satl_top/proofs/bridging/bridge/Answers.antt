@@ -15,8 +15,8 @@ returns-in-Ok g c = record {
 
 pub returns-in-Err : goal.returns-in-Err
 returns-in-Err g c =
-    let before : Moment = moment (source_state (g.S.Source.left c.args.source.now) (g.S.Source.faults c.args.source.now)) (sink_state (g.K.Sink.written c.args.sink.now) (g.K.Sink.faults c.args.sink.now)) c.args.steps.now (g.D.Drive.state c.args.drive.now) in
-    let after : Moment = moment (source_state (g.S.Source.left c.serve_usb.new.source) (g.S.Source.faults c.serve_usb.new.source)) (sink_state (g.K.Sink.written c.serve_usb.new.sink) (g.K.Sink.faults c.serve_usb.new.sink)) c.serve_usb.new.steps (g.D.Drive.state c.serve_usb.new.drive) in
+    let before : Moment = moment (source_state (g.S.Source.left c.args.source.now) (g.S.Source.waited c.args.source.now) (g.S.Source.faults c.args.source.now)) (sink_state (g.K.Sink.written c.args.sink.now) (g.K.Sink.faults c.args.sink.now)) c.args.steps.now (g.D.Drive.state c.args.drive.now) in
+    let after : Moment = moment (source_state (g.S.Source.left c.serve_usb.new.source) (g.S.Source.waited c.serve_usb.new.source) (g.S.Source.faults c.serve_usb.new.source)) (sink_state (g.K.Sink.written c.serve_usb.new.sink) (g.K.Sink.faults c.serve_usb.new.sink)) c.serve_usb.new.steps (g.D.Drive.state c.serve_usb.new.drive) in
     let e = c.in-Err.ensures in
     record {
       ends = bridge_ends before after c.in-Err.fault c.from.result c.from.ensures input_limit e.stopped;

@@ -7,8 +7,8 @@ use Rattle.satl_top.proofs.top.serve_input.Goals as goal
 
 pub returns-in-Ok : goal.returns-in-Ok
 returns-in-Ok g c =
-    let before : Moment = moment (source_state (g.S.Source.left c.args.source.now) (g.S.Source.faults c.args.source.now)) (sink_state (g.K.Sink.written c.args.sink.now) (g.K.Sink.faults c.args.sink.now)) c.args.steps.now (g.D.Drive.state c.args.drive.now) in
-    let after : Moment = moment (source_state (g.S.Source.left c.serve_uncounted.new.source) (g.S.Source.faults c.serve_uncounted.new.source)) (sink_state (g.K.Sink.written c.serve_uncounted.new.sink) (g.K.Sink.faults c.serve_uncounted.new.sink)) c.serve_uncounted.new.steps (g.D.Drive.state c.serve_uncounted.new.drive) in
+    let before : Moment = moment (source_state (g.S.Source.left c.args.source.now) (g.S.Source.waited c.args.source.now) (g.S.Source.faults c.args.source.now)) (sink_state (g.K.Sink.written c.args.sink.now) (g.K.Sink.faults c.args.sink.now)) c.args.steps.now (g.D.Drive.state c.args.drive.now) in
+    let after : Moment = moment (source_state (g.S.Source.left c.serve_uncounted.new.source) (g.S.Source.waited c.serve_uncounted.new.source) (g.S.Source.faults c.serve_uncounted.new.source)) (sink_state (g.K.Sink.written c.serve_uncounted.new.sink) (g.K.Sink.faults c.serve_uncounted.new.sink)) c.serve_uncounted.new.steps (g.D.Drive.state c.serve_uncounted.new.drive) in
     record {
       ends = with_totals c.args.form input_limit before after c.in-Ok.ensures.served;
       causes = tt;
@@ -18,8 +18,8 @@ returns-in-Ok g c =
 
 pub returns-in-Err : goal.returns-in-Err
 returns-in-Err g c =
-    let before : Moment = moment (source_state (g.S.Source.left c.args.source.now) (g.S.Source.faults c.args.source.now)) (sink_state (g.K.Sink.written c.args.sink.now) (g.K.Sink.faults c.args.sink.now)) c.args.steps.now (g.D.Drive.state c.args.drive.now) in
-    let after : Moment = moment (source_state (g.S.Source.left c.serve_uncounted.new.source) (g.S.Source.faults c.serve_uncounted.new.source)) (sink_state (g.K.Sink.written c.serve_uncounted.new.sink) (g.K.Sink.faults c.serve_uncounted.new.sink)) c.serve_uncounted.new.steps (g.D.Drive.state c.serve_uncounted.new.drive) in
+    let before : Moment = moment (source_state (g.S.Source.left c.args.source.now) (g.S.Source.waited c.args.source.now) (g.S.Source.faults c.args.source.now)) (sink_state (g.K.Sink.written c.args.sink.now) (g.K.Sink.faults c.args.sink.now)) c.args.steps.now (g.D.Drive.state c.args.drive.now) in
+    let after : Moment = moment (source_state (g.S.Source.left c.serve_uncounted.new.source) (g.S.Source.waited c.serve_uncounted.new.source) (g.S.Source.faults c.serve_uncounted.new.source)) (sink_state (g.K.Sink.written c.serve_uncounted.new.sink) (g.K.Sink.faults c.serve_uncounted.new.sink)) c.serve_uncounted.new.steps (g.D.Drive.state c.serve_uncounted.new.drive) in
     let says = c.in-Err.ensures.says in
     record {
       ends = fault_ends c.args.form input_limit before after c.in-Err.fault c.from.result c.from.ensures says.stopped;
