@@ -24,7 +24,7 @@ use Rattle.satl_fleet.proofs.ServingLemmas.{are_served, are_served_part}
 
 -- there was not the memory to begin
 pub no_memory : (a : FleetMoment) → IsFleetNotServed a a
-no_memory a = record { read = refl; wrote = refl; alone = all_same a.drives; few_calls = omega arith }
+no_memory a = record { read = refl; waits = refl; wrote = refl; alone = all_same a.drives; few_calls = omega arith }
 
 pub lacks_memory : (ds : List DriveState) → 1 ≤ length ds → IsCauseOfOne NoMemory ds ds
 lacks_memory [] some = absurd (omega (arith, some))
@@ -40,10 +40,10 @@ stream_cause before after faults.Write cause = cause
 
 module _ (limit units : ℕ) (before after : FleetMoment) (mids : List DriveState) (opened : ℕ) (ls ls' : List Layer) (mid_drives last_units last_drives : ℕ) (o : OpensTo before.drives ls mids) (few : opened ≤ before.calls + length before.drives) (each : length ls ≡ length before.drives) (long : length ls' ≡ length after.drives) (is : units ≡ length before.drives) (tied : AllByRecursion IsTiedUnit (unit_states ls' after.drives)) where
   abbrev a : Spot
-  a = record { left = before.source.left; stage = record { target = record { units = unit_states ls mids; layers = units; drives = mid_drives }; written = before.sink.written }; calls = opened }
+  a = record { left = before.source.left; waited = before.source.waited; stage = record { target = record { units = unit_states ls mids; layers = units; drives = mid_drives }; written = before.sink.written }; calls = opened }
 
   abbrev b : Spot
-  b = record { left = after.source.left; stage = record { target = record { units = unit_states ls' after.drives; layers = last_units; drives = last_drives }; written = after.sink.written }; calls = after.calls }
+  b = record { left = after.source.left; waited = after.source.waited; stage = record { target = record { units = unit_states ls' after.drives; layers = last_units; drives = last_drives }; written = after.sink.written }; calls = after.calls }
 
   served : (rounds : List Round) → HaveRun (length before.drives) 0 rounds (unit_states ls mids) (unit_states ls' after.drives) → AreServed (length before.drives) 0 rounds before.drives after.drives
   served rounds run = are_served (length before.drives) 0 rounds ls' after.drives o each long run tied

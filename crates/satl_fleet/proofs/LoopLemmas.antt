@@ -10,10 +10,11 @@ use Rattle.satl_frame.specs.Frames.{IsFrame, IsRequest, data_out}
 use Rattle.satl_frame.specs.Inputs.{NoneEnds}
 use Rattle.satl_frame.specs.Progress.{HasRead}
 use Rattle.satl_frame.specs.Pulls.{cut_to}
-use Rattle.satl_frame.specs.Reading.{Gave, Reading}
+use Rattle.satl_frame.specs.Reading.{Blames, Gave, Reading}
 use Rattle.satl_frame.specs.declared.frames.Version.{Version}
 use Rattle.satl_frame.specs.declared.frames.Frame.{Frame}
 use Rattle.satl_frame.specs.declared.frames.Frame.TheVariants as frames
+use Rattle.satl_frame.specs.declared.frames.FrameFault.{FrameFault}
 use Rattle.satl_frame.proofs.Paging.{length-pages_of}
 use Rattle.satl_frame.proofs.ProgressLemmas.{has_read_more}
 use Rattle.satl_line.proofs.SlotsLemmas.{All-append}
@@ -23,7 +24,7 @@ use Rattle.satl_step.specs.Runs.{calls_allowed, is_lost_behind_all}
 use Rattle.satl_step.proofs.LostLemmas.{lost_push}
 use Rattle.satl_step.proofs.RunLemmas.{allowed_push}
 use Rattle.satl_step.proofs.LoopLemmas.{expectable, holds, not_end, the_end}
-use Rattle.satl_fleet.specs.Loop.{Going, HasGiven, LoopState, ReachedEnd, SoFar, StoppedInRound, calls_due_unless}
+use Rattle.satl_fleet.specs.Loop.{Going, HasGiven, LoopState, ReachedEnd, Refused, SoFar, StoppedInRound, calls_due_unless}
 use Rattle.satl_fleet.specs.Output.{IsRoundOf, Round, frames_of, round_told, rounds_told}
 use Rattle.satl_fleet.specs.Rounds.{CanRoute, EachDid, IsCut, RoundDone, RoundInPart, NoneCalls, Stops, frame_calls, round_of}
 use Rattle.satl_fleet.specs.Rounds.IsCut.{at_unit, behind_all}
@@ -96,6 +97,26 @@ module _ (units : ℕ) where
     none_ends = tt;
   }
 
+  -- whether a byte was waited for is not seen in what was carried out
+  unseen : (a b : LoopState) (waited : Bool) → Going units a b → Going units a (record b { waited = waited })
+  unseen a b waited going =
+      let s = going.so_far in
+      record {
+        rounds = going.rounds;
+        so_far = record { are_rounds = s.are_rounds; given = record { limit = s.given.limit; newest = s.given.newest; read = s.given.read }; wrote = s.wrote; run = s.run; calls = s.calls };
+        none_ends = going.none_ends;
+      }
+
+  -- what follows was refused or not read
+  pub refused : (a b : LoopState) (reader : Reading) (left : Option (List ℕ)) (waited : Bool) (why : FrameFault) → Going units a b → Blames b.reader b.left left why → Refused units why a (record b { reader = reader; left = left; waited = waited })
+  unfolding unseen
+  refused a b reader left waited why going blames = record {
+    reader = b.reader;
+    mid = b.left;
+    going = unseen a b waited going;
+    blames = blames;
+  }
+
   module _ (a b c : LoopState) (room : ℕ) (frame : Frame) (going : Going units a b) (gave : Gave b.reader room frame c.reader b.left c.left) (whole : gave.whole ≡ frame) (calls : calls_due c.stage.target c.calls ≤ calls_due b.stage.target b.calls + frame_calls units frame) (uncalled : NoneCalls units frame b.stage.target.units → c.calls ≡ b.calls) (long : length b.stage.target.units ≡ units) where
     abbrev lost : Bool
     lost = is_lost_behind_all (frames_of going.rounds) false
@@ -134,21 +155,23 @@ module _ (units : ℕ) where
         none_ends = subst NoneEnds (sym (frames_push going.rounds round)) (All-append (λ f. f ≡ frames.End → ⊥) (frames_of going.rounds) (frame ∷ []) going.none_ends (not_end frame other, tt));
       }
 
-      pub ended : is_end frame ≡ true → ReachedEnd units a c
-      ended last = record {
+      pub ended : is_end frame ≡ true → c.waited ≡ false → ReachedEnd units a c
+      ended last unwaited = record {
         rounds = going.rounds ++ round ∷ [];
         so_far = so_far_more;
         earlier = frames_of going.rounds;
         ends = frames_push going.rounds round ∙ ap (λ f. frames_of going.rounds ++ f ∷ []) (the_end frame last);
+        unwaited = unwaited;
       }
 
-    pub part_more : RoundInPart units frame b.stage c.stage → StoppedInRound units a c
-    part_more done = record {
+    pub part_more : RoundInPart units frame b.stage c.stage → c.waited ≡ false → StoppedInRound units a c
+    part_more done unwaited = record {
       mid = b;
       going = going;
       round = round_of frame done.groups;
       is_round = is_round done.cut;
       given = given_more;
+      unwaited = unwaited;
       part = done.part;
       calls =
           let one = due_part b.stage.target c.stage.target b.calls c.calls _ (frame_calls units frame) calls lost uncalled_lost going.so_far.calls in

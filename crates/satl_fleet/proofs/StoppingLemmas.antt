@@ -1,6 +1,6 @@
 -- What a run of the units is, once it stops, from the magic on.
 use Rattle.std.proofs.Common.{◌≡◌, inl, inr, refl, sym, ap, subst, arith, ◌∙◌, ℕ, ◌+◌, ◌≤◌, false, List, [], ◌∷◌}
-use Rattle.std.specs.Prelude.{Option}
+use Rattle.std.specs.Prelude.{Bool, Option}
 use Rattle.std.specs.List.{AllByRecursion}
 use Rattle.satl_base.specs.Limits.{input_limit}
 use Rattle.satl_io.specs.Known.{Wrote, WrotePart}
@@ -34,7 +34,7 @@ use Rattle.satl_fleet.proofs.RunLemmas.{run_none}
 
 -- where a scene stands that was reached behind what was written
 abbrev pub place_of : Option (List ℕ) → LoopState → Spot
-place_of written a = record { left = a.left; stage = record a.stage { written = written }; calls = a.calls }
+place_of written a = record { left = a.left; waited = a.waited; stage = record a.stage { written = written }; calls = a.calls }
 
 -- a scene at which serving begins: a new reader, and the magic was written
 pub record Begins (written : Option (List ℕ)) (a : LoopState) : Type 0 where
@@ -57,7 +57,7 @@ module _ (units : ℕ) (written : Option (List ℕ)) (a : LoopState) (begins : B
       record {
         rounds = e.rounds;
         are_rounds = s.are_rounds;
-        told = record { earlier = e.earlier; place = read.0; ends = e.ends; read = subst (λ fs. ReadTo input_limit One read.0 a.left b.left fs) (sym e.ends) read.1; wrote = printed e.rounds b.stage.written s.wrote };
+        told = record { earlier = e.earlier; place = read.0; ends = e.ends; read = subst (λ fs. ReadTo input_limit One read.0 a.left b.left fs) (sym e.ends) read.1; unwaited = e.unwaited; wrote = printed e.rounds b.stage.written s.wrote };
         run = s.run;
         calls = fewest s;
       }
@@ -117,6 +117,7 @@ module _ (units : ℕ) (written : Option (List ℕ)) (a : LoopState) (begins : B
         newest_is = t.given.newest ∙ begins.newest;
         none_ends = t.going.none_ends;
         read = t.given.read;
+        unwaited = t.unwaited;
         wrote = printed t.going.rounds t.mid.stage.written t.going.so_far.wrote;
         part = t.part;
       };
@@ -132,5 +133,5 @@ module _ (units : ℕ) (written : Option (List ℕ)) (a : LoopState) (begins : B
         (inr (inl (subst (λ w. StoppedInAnswers input_limit units (place_of written a) (place_of w b)) (sym same ∙ ap (λ (w : SinkState). w.written) (sym stays)) (in_round t))))
 
 -- nothing was read, and the magic was written in part
-pub in_magic : (units : ℕ) (left written written' : Option (List ℕ)) (t : Target) (calls : ℕ) → AllByRecursion HasNoTask t.units → WrotePart written written' out_magic → StoppedInMagic units (record { left = left; stage = record { target = t; written = written }; calls = calls }) (record { left = left; stage = record { target = t; written = written' }; calls = calls })
-in_magic units left written written' t calls idle part = record { breaks = record { read = refl; part = part }; run = run_none units 0 t.units idle; calls = omega arith }
+pub in_magic : (units : ℕ) (left : Option (List ℕ)) (waited : Bool) (written written' : Option (List ℕ)) (t : Target) (calls : ℕ) → AllByRecursion HasNoTask t.units → WrotePart written written' out_magic → StoppedInMagic units (record { left = left; waited = waited; stage = record { target = t; written = written }; calls = calls }) (record { left = left; waited = waited; stage = record { target = t; written = written' }; calls = calls })
+in_magic units left waited written written' t calls idle part = record { breaks = record { read = refl; waits = refl; part = part }; run = run_none units 0 t.units idle; calls = omega arith }

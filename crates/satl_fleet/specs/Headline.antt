@@ -33,13 +33,14 @@ HasFewCalls frames before after =
 
 -- ---- what was read and written
 
--- frames of version 1 up to END were read and no byte behind them, and the output of rounds over exactly these was written
--- (profile)
+-- frames of version 1 up to END were read, no byte behind them was read or waited for, and the output of rounds over exactly
+-- these was written (profile)
 pub record IsToldWhole (on : Terms) (before after : Streams) (rounds : List Round) : Type 0 where
   pub earlier : List Frame
   pub place : Place
   pub ends : frames_of rounds ≡ earlier ++ frames.End ∷ []
   pub read : ReadTo on.limit One place before.left after.left (frames_of rounds)
+  pub unwaited : after.waited ≡ false
   pub wrote : Wrote before.written after.written (output on.units rounds)
 
 -- the same of frames none of which is END, and what follows was refused or not read, which was told (profile)
@@ -47,13 +48,14 @@ pub record IsToldBefore (on : Terms) (why : FrameFault) (before after : Streams)
   pub read : ReadBefore One on.limit before.left after.left (frames_of rounds) why
   pub wrote : Wrote before.written after.written (output on.units rounds ++ told_of Frames why)
 
--- nothing was read, and a front of the magic was written (profile)
+-- nothing was read or waited for, and a front of the magic was written (profile)
 pub record BreaksInMagic (before after : Streams) : Type 0 where
   pub read : after.left ≡ before.left
+  pub waits : after.waited ≡ before.waited
   pub part : WrotePart before.written after.written out_magic
 
--- the output of rounds was written whole, none of which is END; then one frame more was read, and of what is due to it a front
--- was written (profile)
+-- the output of rounds was written whole, none of which is END; then one frame more was read, no byte behind it was waited for,
+-- and of what is due to it a front was written (profile)
 pub record BreaksInRound (on : Terms) (before after : Streams) (rounds : List Round) (round : Round) : Type 0 where
   pub reader : Reading
   pub behind : Option (List ℕ)
@@ -61,6 +63,7 @@ pub record BreaksInRound (on : Terms) (before after : Streams) (rounds : List Ro
   pub newest_is : reader.newest ≡ One
   pub none_ends : NoneEnds (frames_of rounds)
   pub read : HasRead reader before.left after.left (frames_of rounds ++ round.frame ∷ [])
+  pub unwaited : after.waited ≡ false
   pub wrote : Wrote before.written behind (output on.units rounds)
   pub part : WrotePart behind after.written (round_told on.units round)
 
@@ -123,9 +126,10 @@ abbrev pub IsFleetInPart : ℕ → FleetMoment → FleetMoment → Type 0
 IsFleetInPart limit before after =
     BrokeInMagic before after ⊎ (BrokeInRound limit before after ⊎ BrokeInFault limit before after)
 
--- nothing was read or written, and the drives were called as often at most as there are drives (profile)
+-- nothing was read, waited for or written, and the drives were called as often at most as there are drives (profile)
 pub record IsFleetNotServed (before after : FleetMoment) : Type 0 where
   pub read : after.source.left ≡ before.source.left
+  pub waits : after.source.waited ≡ before.source.waited
   pub wrote : after.sink.written ≡ before.sink.written
   pub alone : AllZip IsLeftAlone before.drives after.drives
   pub few_calls : after.calls ≤ before.calls + length before.drives

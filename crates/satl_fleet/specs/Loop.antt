@@ -16,15 +16,18 @@ use Rattle.satl_fleet.specs.Rounds.{IsCut, Stage, frame_calls}
 use Rattle.satl_fleet.specs.Runs.{HaveRun, HaveRunInPart}
 use Rattle.satl_fleet.specs.Serving.{Target, calls_due}
 
--- a reader, what is left to read, the units and what was written, and how often the drives were called (profile)
+-- a reader, what is left to read, whether the source has waited for a byte that it has not given, the units and what was
+-- written, and how often the drives were called (profile)
 pub record LoopState : Type 0 where
   pub reader : Reading
   pub left : Option (List ℕ)
+  pub waited : Bool
   pub stage : Stage
   pub calls : ℕ
 
-abbrev pub loop_state : Reading → Option (List ℕ) → Stage → ℕ → LoopState
-loop_state reader left stage calls = record { reader = reader; left = left; stage = stage; calls = calls }
+abbrev pub loop_state : Reading → Option (List ℕ) → Bool → Stage → ℕ → LoopState
+loop_state reader left waited stage calls =
+    record { reader = reader; left = left; waited = waited; stage = stage; calls = calls }
 
 -- how often the drives were called, with the calls of a turn for each task that waits, if the link is not known to be lost
 -- (profile)
@@ -53,12 +56,13 @@ pub record Going (units : ℕ) (before after : LoopState) : Type 0 where
   pub so_far : SoFar units before after rounds
   pub none_ends : NoneEnds (frames_of rounds)
 
--- the same, and the last one is END (profile)
+-- the same, the last one is END, and no byte behind it was waited for (profile)
 pub record ReachedEnd (units : ℕ) (before after : LoopState) : Type 0 where
   pub rounds : List Round
   pub so_far : SoFar units before after rounds
   pub earlier : List Frame
   pub ends : frames_of rounds ≡ earlier ++ frames.End ∷ []
+  pub unwaited : after.waited ≡ false
 
 -- rounds were served, and what follows them was refused or not read (profile)
 pub record Refused (units : ℕ) (why : FrameFault) (before after : LoopState) : Type 0 where
@@ -67,14 +71,15 @@ pub record Refused (units : ℕ) (why : FrameFault) (before after : LoopState) :
   pub going : Going units before (record after { reader = reader; left = mid })
   pub blames : Blames reader mid after.left why
 
--- rounds were served and told; then one frame more was read, and a front of what is due to it was written: all units did it, or
--- units up to one that did it in whole or in part (profile)
+-- rounds were served and told; then one frame more was read, and a front of what is due to it was written before a byte behind
+-- it was waited for: all units did it, or units up to one that did it in whole or in part (profile)
 pub record StoppedInRound (units : ℕ) (before after : LoopState) : Type 0 where
   pub mid : LoopState
   pub going : Going units before mid
   pub round : Round
   pub is_round : IsRoundOf units round
   pub given : HasGiven before after (frames_of going.rounds ++ round.frame ∷ [])
+  pub unwaited : after.waited ≡ false
   pub part : WrotePart mid.stage.written after.stage.written (round_told units round)
   pub cut : IsCut units round mid.stage.written after.stage.written
       (HaveRun units 0 (going.rounds ++ round ∷ []) before.stage.target.units after.stage.target.units)

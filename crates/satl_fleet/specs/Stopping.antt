@@ -1,5 +1,5 @@
 -- Why serving a target stops (profile).
-use Rattle.std.specs.Prelude.{◌⊎◌, ℕ, ◌+◌, ◌≤◌, false, List, [], ◌∷◌, ◌++◌, Option}
+use Rattle.std.specs.Prelude.{◌⊎◌, ℕ, ◌+◌, ◌≤◌, Bool, false, List, [], ◌∷◌, ◌++◌, Option}
 use Rattle.std.specs.List.{AllByRecursion}
 use Rattle.satl_io.specs.Causes.{Rose}
 use Rattle.satl_frame.specs.declared.frames.FrameFault.{FrameFault}
@@ -25,18 +25,20 @@ HasFleetCause before after faults.Write = Rose before.sink.faults after.sink.fau
 
 -- ---- on units that were opened
 
--- what is left to read, the units and what was written, and how often the drives were called (profile)
+-- what is left to read, whether a byte of it was waited for, the units and what was written, and how often the drives were
+-- called (profile)
 pub record Spot : Type 0 where
   pub left : Option (List ℕ)
+  pub waited : Bool
   pub stage : Stage
   pub calls : ℕ
 
-abbrev pub spot : Option (List ℕ) → Stage → ℕ → Spot
-spot left stage calls = record { left = left; stage = stage; calls = calls }
+abbrev pub spot : Option (List ℕ) → Bool → Stage → ℕ → Spot
+spot left waited stage calls = record { left = left; waited = waited; stage = stage; calls = calls }
 
 -- the streams there (profile)
 abbrev pub streams_of : Spot → Streams
-streams_of s = record { left = s.left; written = s.stage.written }
+streams_of s = record { left = s.left; waited = s.waited; written = s.stage.written }
 
 -- what a run leaves at its end: how often the drives were called (profile)
 abbrev pub HasFewCallsOn : ℕ → List Frame → Spot → Spot → Type 0

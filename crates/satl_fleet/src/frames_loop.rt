@@ -37,12 +37,16 @@ pub fn serve_frames<S: Source, K: Sink, D: Bench<L>, L: Ledger>(
     requires fresh { reader.old.refused ≡ None }
     requires unread { reader.old.place ≡ None }
     ensures ended { OnOk result (ReachedEnd (vec_len units.old)
-        (loop_state reader.old (S.left source.old) (stage (target D.state units.old drives.old) (K.written sink.old)) steps.old)
-        (loop_state reader.new (S.left source.new) (stage (target D.state units.new drives.new) (K.written sink.new))
+        (loop_state reader.old (S.left source.old) (S.waited source.old)
+        (stage (target D.state units.old drives.old) (K.written sink.old)) steps.old)
+        (loop_state reader.new (S.left source.new) (S.waited source.new)
+        (stage (target D.state units.new drives.new) (K.written sink.new))
         steps.new)) }
     ensures stopped { IfErr result (StoppedSo (vec_len units.old)
-        (loop_state reader.old (S.left source.old) (stage (target D.state units.old drives.old) (K.written sink.old)) steps.old)
-        (loop_state reader.new (S.left source.new) (stage (target D.state units.new drives.new) (K.written sink.new))
+        (loop_state reader.old (S.left source.old) (S.waited source.old)
+        (stage (target D.state units.old drives.old) (K.written sink.old)) steps.old)
+        (loop_state reader.new (S.left source.new) (S.waited source.new)
+        (stage (target D.state units.new drives.new) (K.written sink.new))
         steps.new)) }
     ensures keeps { KeepsUnits (target D.state units.old drives.old) (target D.state units.new drives.new) }
     ensures causes { IfErr result (HasStopCause (S.faults source.old) (S.faults source.new) (K.faults sink.old)

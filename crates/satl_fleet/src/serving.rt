@@ -30,9 +30,9 @@ const POOL_PAGES: u32 = MOST_MOVED;
 /// Serves an input of frames of version 1 on one to four drives, the logical units 0 to 3 of one target: opens the layer on
 /// each, and carries out one frame after the other up to END, which ends it. A command or a function for LUN n goes to unit n,
 /// which sees it at LUN 0, and that for another LUN to unit 0; the target answers REPORT LUNS; I_T NEXUS RESET, turns, events
-/// of the bench and END go to every unit in ascending order. Answers are written as frames, each before the next frame is read,
-/// and a frame names their unit before those of one frame. To each LUN the answers are those of its own direct device alone; a
-/// unit that a frame does not go to answers nothing to it.
+/// of the bench and END go to every unit in ascending order. Answers are written as frames, each before the next frame is read
+/// or waited for, and a frame names their unit before those of one frame. To each LUN the answers are those of its own direct
+/// device alone; a unit that a frame does not go to answers nothing to it.
 /// Each drive has nothing outstanding and is in no error state, and its IDENTIFY DEVICE data fit it.
 /// `Open`: the layer was not opened on each drive, for the cause told of one of them or for want of memory, and nothing was
 /// read or written. `BadInput` comes after its FAULT frame was written, with the reason and the offset of the refused frame in
@@ -49,24 +49,24 @@ pub fn serve_fleet<S: Source, K: Sink, D: Bench<L>, L: Ledger>(
     requires few { vec_len drives.old ≤ 4 }
     requires free { AllByRecursion IsFree (map D.state drives.old.items) }
     ensures served { OnOk result (IsFleetWhole input_limit
-        (fleet_moment (source_state (S.left source.old) (S.faults source.old))
+        (fleet_moment (source_state (S.left source.old) (S.waited source.old) (S.faults source.old))
         (sink_state (K.written sink.old) (K.faults sink.old))
         steps.old (map D.state drives.old.items))
-        (fleet_moment (source_state (S.left source.new) (S.faults source.new))
+        (fleet_moment (source_state (S.left source.new) (S.waited source.new) (S.faults source.new))
         (sink_state (K.written sink.new) (K.faults sink.new))
         steps.new (map D.state drives.new.items))) }
     ensures stopped { IfErr result (IsFleetStopped input_limit
-        (fleet_moment (source_state (S.left source.old) (S.faults source.old))
+        (fleet_moment (source_state (S.left source.old) (S.waited source.old) (S.faults source.old))
         (sink_state (K.written sink.old) (K.faults sink.old))
         steps.old (map D.state drives.old.items))
-        (fleet_moment (source_state (S.left source.new) (S.faults source.new))
+        (fleet_moment (source_state (S.left source.new) (S.waited source.new) (S.faults source.new))
         (sink_state (K.written sink.new) (K.faults sink.new))
         steps.new (map D.state drives.new.items))) }
     ensures causes { IfErr result (HasFleetCause
-        (fleet_moment (source_state (S.left source.old) (S.faults source.old))
+        (fleet_moment (source_state (S.left source.old) (S.waited source.old) (S.faults source.old))
         (sink_state (K.written sink.old) (K.faults sink.old))
         steps.old (map D.state drives.old.items))
-        (fleet_moment (source_state (S.left source.new) (S.faults source.new))
+        (fleet_moment (source_state (S.left source.new) (S.waited source.new) (S.faults source.new))
         (sink_state (K.written sink.new) (K.faults sink.new))
         steps.new (map D.state drives.new.items))) }
     ensures drives { vec_len drives.new ≡ vec_len drives.old }
@@ -92,14 +92,19 @@ fn serve_opened<S: Source, K: Sink, D: Bench<L>, L: Ledger>(
     requires pool { number_of pool.old ≡ 4096 }
     requires all_in { pool.old.out ≡ 0 }
     ensures whole { OnOk result (RanWhole input_limit (vec_len units.old)
-        (spot (S.left source.old) (stage (target D.state units.old drives.old) (K.written sink.old)) steps.old)
-        (spot (S.left source.new) (stage (target D.state units.new drives.new) (K.written sink.new)) steps.new)) }
+        (spot (S.left source.old) (S.waited source.old)
+        (stage (target D.state units.old drives.old) (K.written sink.old)) steps.old)
+        (spot (S.left source.new) (S.waited source.new)
+        (stage (target D.state units.new drives.new) (K.written sink.new)) steps.new)) }
     ensures stopped { IfErr result (RanTo input_limit (vec_len units.old)
-        (spot (S.left source.old) (stage (target D.state units.old drives.old) (K.written sink.old)) steps.old)
-        (spot (S.left source.new) (stage (target D.state units.new drives.new) (K.written sink.new)) steps.new)) }
+        (spot (S.left source.old) (S.waited source.old)
+        (stage (target D.state units.old drives.old) (K.written sink.old)) steps.old)
+        (spot (S.left source.new) (S.waited source.new)
+        (stage (target D.state units.new drives.new) (K.written sink.new)) steps.new)) }
     ensures keeps { KeepsUnits (target D.state units.old drives.old) (target D.state units.new drives.new) }
     ensures causes { IfErr result (HasStreamCause
-        (source_state (S.left source.old) (S.faults source.old)) (source_state (S.left source.new) (S.faults source.new))
+        (source_state (S.left source.old) (S.waited source.old) (S.faults source.old))
+        (source_state (S.left source.new) (S.waited source.new) (S.faults source.new))
         (sink_state (K.written sink.old) (K.faults sink.old)) (sink_state (K.written sink.new) (K.faults sink.new))) }
 {
     write_frame(OutFrame::Magic, sink)?;

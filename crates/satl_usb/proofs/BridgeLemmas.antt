@@ -1,5 +1,5 @@
 -- What the bridge has done so far.
-use Rattle.std.proofs.Common.{◌≡◌, refl, sym, ap, subst, ◌∙◌, append_assoc, arith, inl, inr, ℕ, ◌+◌, ◌≤◌, true, false, List, [], ◌∷◌, ◌++◌, length, take}
+use Rattle.std.proofs.Common.{◌≡◌, refl, sym, ap, subst, ◌∙◌, append_assoc, arith, inl, inr, ℕ, ◌+◌, ◌≤◌, Bool, true, false, List, [], ◌∷◌, ◌++◌, length, take}
 use Rattle.std.specs.Prelude.{Option, None, Some}
 use Rattle.std.proofs.lemmas.List.{append-nil, flat_map_more, length-append}
 use Rattle.arrayvec.specs.ArrayVec.{ArrayVec}
@@ -8,6 +8,7 @@ use Rattle.satl_io.specs.Known.{Took, Wrote}
 use Rattle.satl_io.proofs.Joined.{Took-more, Took-none, Wrote-more, Wrote-none}
 use Rattle.satl_bot.specs.declared.command.Cbw.{Cbw}
 use Rattle.satl_frame.specs.DataPages.{pages_of}
+use Rattle.satl_frame.specs.Pulls.{FewerThan}
 use Rattle.satl_frame.specs.declared.frames.Frame.{Frame}
 use Rattle.satl_frame.specs.declared.frames.Frame.TheVariants as frames
 use Rattle.satl_frame.specs.Output.{Answer}
@@ -19,10 +20,13 @@ use Rattle.satl_usb.specs.Answering.{Answered, AnsweredInPart, desk, point, requ
 use Rattle.satl_usb.specs.Bridge.{Bridged, BridgedInPart, BridgedWhole, HasTaken, Talk, talk_of, wire_of}
 use Rattle.satl_usb.specs.Exchanges.{Exchange, is_told_kept, request_of}
 use Rattle.satl_usb.specs.Exchanges.Exchange.{start, asked, sent}
-use Rattle.satl_usb.specs.Items.{AreItems, IsItem, Item, bytes_of_items, item_bytes, sent_length}
-use Rattle.satl_usb.specs.Reading.{TookItem, WasAtEnd}
+use Rattle.satl_usb.specs.Headline.{RanTo, stop_at}
+use Rattle.satl_usb.specs.Items.{AreItems, IsItem, Item, asked_of_item, bytes_of_items, item_bytes, sent_length}
+use Rattle.satl_usb.specs.Reading.{ItemMissed, TookItem, WasAtEnd}
 use Rattle.satl_usb.specs.Serving.{BothCarried}
 use Rattle.satl_usb.specs.Wire.{kept_of, kept_on_wire, reply_on_wire}
+use Rattle.satl_usb.specs.declared.items.ItemFault.{ItemFault}
+use Rattle.satl_usb.specs.declared.items.ItemFault.TheVariants as missed
 use Rattle.satl_usb.specs.declared.items.Taken.{Taken}
 
 -- ---- items that were taken
@@ -161,8 +165,8 @@ module _ (limit offset room : ℕ) (a b c : Spot) (kept : Option (ArrayVec ℕ))
   }
 
   -- or in part
-  pub stopped_in_part : AnsweredInPart taken (desk (point b.stand b.written) kept) (point c.stand c.written) → BridgedInPart limit a c
-  stopped_in_part (inl r) = record {
+  pub stopped_in_part : AnsweredInPart taken (desk (point b.stand b.written) kept) (point c.stand c.written) → c.waited ≡ false → BridgedInPart limit a c
+  stopped_in_part (inl r) unwaited = record {
     earlier = g.items;
     last = t.item;
     due = g.told;
@@ -170,10 +174,11 @@ module _ (limit offset room : ℕ) (a b c : Spot) (kept : Option (ArrayVec ℕ))
     kept = None;
     behind = b.written;
     bridged = asked_bridged r.sense r.was_kept r.asks r.stays;
+    unwaited = unwaited;
     wrote = g.wrote;
     part = r.part;
   }
-  stopped_in_part (inr (other, r)) = record {
+  stopped_in_part (inr (other, r)) unwaited = record {
     earlier = g.items;
     last = t.item;
     due = g.told;
@@ -181,6 +186,7 @@ module _ (limit offset room : ℕ) (a b c : Spot) (kept : Option (ArrayVec ℕ))
     kept = kept_of r.both.reply;
     behind = b.written;
     bridged = sent_bridged other r.both;
+    unwaited = unwaited;
     wrote = g.wrote;
     part = r.part;
   }
@@ -196,12 +202,35 @@ within_limit limit offset room end left left' taken t is =
 
 -- ---- how it ends
 
+-- whether a byte was waited for is not seen in what was bridged
+unseen : (limit : ℕ) (a b : Spot) (waited : Bool) (t : Talk) → Bridged limit a b t → Bridged limit a (record b { waited = waited }) t
+unseen limit a b waited t so = record { events = so.events; groups = so.groups; taken = so.taken; exchange = so.exchange; run = so.run; idle = so.idle; unplugs = so.unplugs; orders = so.orders }
+
 -- at the end of the source
-pub bridged_whole : (limit offset : ℕ) (a b : Spot) (left : Option (List ℕ)) (kept : Option (ArrayVec ℕ)) → IsDeep a.stand.tally → Going limit a b kept offset → WasAtEnd b.left left → BridgedWhole limit a (record b { left = left })
-bridged_whole limit offset a b left kept deep g e = record {
+pub bridged_whole : (limit offset : ℕ) (a b : Spot) (left : Option (List ℕ)) (waited : Bool) (kept : Option (ArrayVec ℕ)) → IsDeep a.stand.tally → Going limit a b kept offset → WasAtEnd b.left left → BridgedWhole limit a (record b { left = left; waited = waited })
+bridged_whole limit offset a b left waited kept deep g e = record {
   talk = talk_of g.items g.told kept;
   bridged = record { events = g.bridged.events; groups = g.bridged.groups; taken = taken_none limit a.left b.left left g.items g.bridged.taken e.took; exchange = g.bridged.exchange; run = g.bridged.run; idle = g.bridged.idle; unplugs = g.bridged.unplugs; orders = g.bridged.orders };
   at_end = e.end;
   wrote = g.wrote;
   deep = g.bridged.run.covered deep;
+}
+
+-- at what is refused or not read
+pub bridged_missed : (limit offset : ℕ) (a b : Spot) (left : Option (List ℕ)) (waited : Bool) (kept : Option (ArrayVec ℕ)) (fault : ItemFault) → Going limit a b kept offset → ItemMissed limit offset b.left left fault → RanTo limit a (record b { left = left; waited = waited }) (stop_at offset fault)
+bridged_missed limit offset a b left waited kept missed.Bad g (none, front) = record {
+  talk = talk_of g.items g.told kept;
+  mid = b.left;
+  bridged = unseen limit a b waited (talk_of g.items g.told kept) g.bridged;
+  offset_is = g.at;
+  refused = none;
+  front = front;
+  wrote = g.wrote;
+}
+bridged_missed limit offset a b left waited kept missed.Failed g cut_off = record {
+  talk = talk_of g.items g.told kept;
+  mid = b.left;
+  bridged = unseen limit a b waited (talk_of g.items g.told kept) g.bridged;
+  cut_off = subst (λ n. FewerThan b.left left (asked_of_item limit n)) g.at cut_off;
+  wrote = g.wrote;
 }

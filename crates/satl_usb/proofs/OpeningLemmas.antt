@@ -31,7 +31,7 @@ bridged_sooner limit a b s old new same few talk r = record {
 -- how the layer was opened and its items were bridged, on a drive that was first so, then opened, and last so
 module _ (limit : ℕ) (before after : Moment) (mid_drive : DriveState) (opened : ℕ) (l l' : Layer) (is : IsOpened before.drive l mid_drive) (one : opened ≤ before.calls + 1) (tied : Tied l' after.drive) (ties : TiesQueue l' after.drive) where
   abbrev a : Spot
-  a = record { left = before.source.left; written = before.sink.written; stand = record { device = view l mid_drive; tally = tally_of mid_drive opened } }
+  a = record { left = before.source.left; waited = before.source.waited; written = before.sink.written; stand = record { device = view l mid_drive; tally = tally_of mid_drive opened } }
 
   abbrev b : Spot
   b = spot_at (view l' after.drive) after.calls after
@@ -61,4 +61,4 @@ module _ (limit : ℕ) (before after : Moment) (mid_drive : DriveState) (opened 
   stops (faults.Open opening) r = absurd r
   stops (faults.BadInput offset) r = serves (BridgedBefore limit offset) (record { talk = r.talk; mid = r.mid; bridged = earlier (record b { left = r.mid }) r.talk r.bridged; offset_is = r.offset_is; refused = r.refused; front = r.front; wrote = r.wrote })
   stops faults.Read r = serves (BridgedUpTo limit) (record { talk = r.talk; mid = r.mid; bridged = earlier (record b { left = r.mid }) r.talk r.bridged; cut_off = r.cut_off; wrote = r.wrote })
-  stops faults.Write r = serves (BridgedInPart limit) (record { earlier = r.earlier; last = r.last; due = r.due; answer = r.answer; kept = r.kept; behind = r.behind; bridged = earlier b (talk_of (r.earlier ++ r.last ∷ []) (r.due ++ r.answer ∷ []) r.kept) r.bridged; wrote = r.wrote; part = r.part })
+  stops faults.Write r = serves (BridgedInPart limit) (record { earlier = r.earlier; last = r.last; due = r.due; answer = r.answer; kept = r.kept; behind = r.behind; bridged = earlier b (talk_of (r.earlier ++ r.last ∷ []) (r.due ++ r.answer ∷ []) r.kept) r.bridged; unwaited = r.unwaited; wrote = r.wrote; part = r.part })

@@ -1,5 +1,5 @@
 -- What the bridge does with an input: a run of the device over its items, whose replies are written (profile).
-use Rattle.std.specs.Prelude.{◌≡◌, ℕ, ◌≤◌, List, [], ◌∷◌, ◌++◌, length, Option}
+use Rattle.std.specs.Prelude.{◌≡◌, ℕ, ◌≤◌, false, List, [], ◌∷◌, ◌++◌, length, Option}
 use Rattle.std.specs.List.{flat_map}
 use Rattle.std.specs.Io.KnownBytes.{IsAtEnd}
 use Rattle.arrayvec.specs.ArrayVec.{ArrayVec}
@@ -70,8 +70,8 @@ pub record BridgedUpTo (limit : ℕ) (before after : Spot) : Type 0 where
   pub cut_off : FewerThan mid after.left (asked_of_item limit (length (bytes_of_items talk.items)))
   pub wrote : Wrote before.written after.written (wire_of talk.told)
 
--- items were taken and carried out, a last one behind earlier ones; what the earlier ones are on the wire was written whole,
--- and of what the last one is a front (profile)
+-- items were taken and carried out, a last one behind earlier ones, and no byte behind it was waited for; what the earlier ones
+-- are on the wire was written whole, and of what the last one is a front (profile)
 pub record BridgedInPart (limit : ℕ) (before after : Spot) : Type 0 where
   pub earlier : List Item
   pub last : Item
@@ -80,5 +80,6 @@ pub record BridgedInPart (limit : ℕ) (before after : Spot) : Type 0 where
   pub kept : Option (ArrayVec ℕ)
   pub behind : Option (List ℕ)
   pub bridged : Bridged limit before after (talk_of (earlier ++ last ∷ []) (due ++ answer ∷ []) kept)
+  pub unwaited : after.waited ≡ false
   pub wrote : Wrote before.written behind (wire_of due)
   pub part : WrotePart behind after.written answer

@@ -26,16 +26,17 @@ use std::sync::ledger::Ledger;
 
 /// Bridges a USB disk: opens the layer on the drive, and carries out one item after the other up to the end of the input. An
 /// item is the wrapper of a command and the data that the host sends; its answer, data and the wrapper of its status, is
-/// written before the next item is read. Each item is a request of nexus 0 and one turn, to which exactly one reply is given;
-/// but REQUEST SENSE is answered with the sense data of the item before it, where that failed, and then the unit is asked
-/// nothing. `Open`: the layer was not opened, for the reason told, and nothing was read or written. `BadInput`: what stands at
-/// the offset, in bytes, is no item; the items before it were carried out, and nothing is written for it. Of what stands there
-/// exactly 31 bytes were taken, and behind a good wrapper whose item would end within 2^40 bytes the data that it tells, or all
-/// where there are fewer. `Read` and `Write` come only where the source's or the sink's count of faults rose; at `Read` fewer
-/// bytes were taken than these; at `Write` all items taken were carried out, and of the last one's answer a front was written.
-/// At every answer the drive was not unplugged, and no order bytes were handed in to it. An input that is items to its end is
-/// carried out whole, where no count of faults rises and the drive is not refused, or there is no memory before anything is
-/// read. No memory is taken behind the opening (USB Mass Storage Class, Bulk-Only Transport 1.0, 5; profile).
+/// written before the next item is read or waited for. Each item is a request of nexus 0 and one turn, to which exactly one
+/// reply is given; but REQUEST SENSE is answered with the sense data of the item before it, where that failed, and then the
+/// unit is asked nothing. `Open`: the layer was not opened, for the reason told, and nothing was read or written. `BadInput`:
+/// what stands at the offset, in bytes, is no item; the items before it were carried out, and nothing is written for it. Of
+/// what stands there exactly 31 bytes were taken, and behind a good wrapper whose item would end within 2^40 bytes the data
+/// that it tells, or all where there are fewer. `Read` and `Write` come only where the source's or the sink's count of faults
+/// rose; at `Read` fewer bytes were taken than these; at `Write` all items taken were carried out, and of the last one's answer
+/// a front was written. At every answer the drive was not unplugged, and no order bytes were handed in to it. An input that is
+/// items to its end is carried out whole, where no count of faults rises and the drive is not refused, or there is no memory
+/// before anything is read. No memory is taken behind the opening (USB Mass Storage Class, Bulk-Only Transport 1.0, 5;
+/// profile).
 pub fn serve_usb<S: Source, K: Sink, D: Bench<L>, L: Ledger>(
     alloc: Global,
     source: &mut S,
@@ -45,19 +46,25 @@ pub fn serve_usb<S: Source, K: Sink, D: Bench<L>, L: Ledger>(
 ) -> Result<(), UsbFault>
     requires { IsFree (D.state drive.old) }
     ensures bridged { OnOk result (IsBridgedWhole input_limit
-        (moment (source_state (S.left source.old) (S.faults source.old)) (sink_state (K.written sink.old) (K.faults sink.old))
+        (moment (source_state (S.left source.old) (S.waited source.old) (S.faults source.old))
+        (sink_state (K.written sink.old) (K.faults sink.old))
         steps.old (D.state drive.old))
-        (moment (source_state (S.left source.new) (S.faults source.new)) (sink_state (K.written sink.new) (K.faults sink.new))
+        (moment (source_state (S.left source.new) (S.waited source.new) (S.faults source.new))
+        (sink_state (K.written sink.new) (K.faults sink.new))
         steps.new (D.state drive.new))) }
     ensures stopped { IfErr result (IsStopped input_limit
-        (moment (source_state (S.left source.old) (S.faults source.old)) (sink_state (K.written sink.old) (K.faults sink.old))
+        (moment (source_state (S.left source.old) (S.waited source.old) (S.faults source.old))
+        (sink_state (K.written sink.old) (K.faults sink.old))
         steps.old (D.state drive.old))
-        (moment (source_state (S.left source.new) (S.faults source.new)) (sink_state (K.written sink.new) (K.faults sink.new))
+        (moment (source_state (S.left source.new) (S.waited source.new) (S.faults source.new))
+        (sink_state (K.written sink.new) (K.faults sink.new))
         steps.new (D.state drive.new))) }
     ensures causes { IfErr result (HasUsbCause
-        (moment (source_state (S.left source.old) (S.faults source.old)) (sink_state (K.written sink.old) (K.faults sink.old))
+        (moment (source_state (S.left source.old) (S.waited source.old) (S.faults source.old))
+        (sink_state (K.written sink.old) (K.faults sink.old))
         steps.old (D.state drive.old))
-        (moment (source_state (S.left source.new) (S.faults source.new)) (sink_state (K.written sink.new) (K.faults sink.new))
+        (moment (source_state (S.left source.new) (S.waited source.new) (S.faults source.new))
+        (sink_state (K.written sink.new) (K.faults sink.new))
         steps.new (D.state drive.new))) }
     ensures unplugs { (D.state drive.new).unplugs ≡ (D.state drive.old).unplugs }
     ensures orders { (D.state drive.new).orders ≡ (D.state drive.old).orders }
@@ -65,9 +72,11 @@ pub fn serve_usb<S: Source, K: Sink, D: Bench<L>, L: Ledger>(
         → IsErrAnd result (TellsRefusal fault) }
     ensures complete { (items : List Item) → IsItemInput input_limit (S.left source.old) items
         → GoesWell
-        (moment (source_state (S.left source.old) (S.faults source.old)) (sink_state (K.written sink.old) (K.faults sink.old))
+        (moment (source_state (S.left source.old) (S.waited source.old) (S.faults source.old))
+        (sink_state (K.written sink.old) (K.faults sink.old))
         steps.old (D.state drive.old))
-        (moment (source_state (S.left source.new) (S.faults source.new)) (sink_state (K.written sink.new) (K.faults sink.new))
+        (moment (source_state (S.left source.new) (S.waited source.new) (S.faults source.new))
+        (sink_state (K.written sink.new) (K.faults sink.new))
         steps.new (D.state drive.new)) → MatchResult result (λ _. S.left source.new ≡ Some [])
         (MayStop (D.state drive.old) (D.state drive.new)) }
 {
@@ -92,10 +101,12 @@ fn serve_items<S: Source, K: Sink, D: Bench<L>, L: Ledger>(
     requires deep { IsDeep (tally_of (D.state drive.old) steps.old) }
     ensures tied { Tied satl.new (D.state drive.new) }
     ensures bridges { Bridges input_limit
-        (spot (S.left source.old) (K.written sink.old) (stand_of satl.old (D.state drive.old) steps.old))
-        (spot (S.left source.new) (K.written sink.new) (stand_of satl.new (D.state drive.new) steps.new)) result }
-    ensures causes { IfErr result (HasStreamCause (source_state (S.left source.old) (S.faults source.old))
-        (source_state (S.left source.new) (S.faults source.new)) (sink_state (K.written sink.old) (K.faults sink.old))
+        (spot (S.left source.old) (S.waited source.old) (K.written sink.old) (stand_of satl.old (D.state drive.old) steps.old))
+        (spot (S.left source.new) (S.waited source.new) (K.written sink.new)
+        (stand_of satl.new (D.state drive.new) steps.new)) result }
+    ensures causes { IfErr result (HasStreamCause (source_state (S.left source.old) (S.waited source.old) (S.faults source.old))
+        (source_state (S.left source.new) (S.waited source.new) (S.faults source.new))
+        (sink_state (K.written sink.old) (K.faults sink.old))
         (sink_state (K.written sink.new) (K.faults sink.new))) }
     ensures unplugs { (D.state drive.new).unplugs ≡ (D.state drive.old).unplugs }
     ensures orders { (D.state drive.new).orders ≡ (D.state drive.old).orders }

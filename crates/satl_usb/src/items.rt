@@ -1,5 +1,5 @@
 // Items are read, however the reads are cut.
-ghost use Rattle.std.specs.Prelude.{◌≡◌, ◌≤◌, IfErr, IfOk};
+ghost use Rattle.std.specs.Prelude.{◌≡◌, ◌≤◌, false, IfErr, IfOk, IfSome};
 ghost use Rattle.satl_base.specs.Stocks.{HasLent};
 ghost use Rattle.satl_base.specs.Limits.{input_limit};
 ghost use Rattle.satl_frame.specs.Pulls.{given_pages};
@@ -50,6 +50,7 @@ pub fn sent_length(command: &Cbw) -> u32
 /// Takes the wrapper of a command, 31 bytes. None at the end of the source.
 fn read_head<S: Source>(source: &mut S) -> Result<Option<Cbw>, ItemFault>
     ensures read { IfOk result (HeadRead (S.left source.old) (S.left source.new)) }
+    ensures unwaited { IfOk result (λ head. IfSome head (λ _. S.waited source.new ≡ false)) }
     ensures missed { IfErr result (HeadMissed (S.left source.old) (S.left source.new)) }
     ensures causes { ItemCauses (S.faults source.old) (S.faults source.new) result }
 {
@@ -66,9 +67,9 @@ fn read_head<S: Source>(source: &mut S) -> Result<Option<Cbw>, ItemFault>
 
 /// Takes the next item, which stands at an offset of the input: a wrapper, and the data that the host sends behind it. None at
 /// the end of the source. `Bad`: a byte stands there, and no item that ends within 2^40 bytes. Of what stands there 31 bytes
-/// are asked for, and behind a good wrapper whose item would end within the limit the data that it tells: at `Bad` so many
-/// were taken, or all where there are fewer. `Failed` comes only where the source's count of faults rose; then fewer were taken
-/// (USB Mass Storage Class, Bulk-Only Transport 1.0, 5.3; the limit: profile).
+/// are asked for, and behind a good wrapper whose item would end within the limit the data that it tells: at `Bad` so many were
+/// taken, or all where there are fewer. `Failed` comes only where the source's count of faults rose; then fewer were taken.
+/// Behind an item no byte is waited for (USB Mass Storage Class, Bulk-Only Transport 1.0, 5.3; the limit: profile).
 pub fn next_item<S: Source, P: Lender>(
     source: &mut S,
     lender: &mut P,
@@ -76,6 +77,7 @@ pub fn next_item<S: Source, P: Lender>(
 ) -> Result<Option<Taken>, ItemFault>
     requires near { offset ≤ input_limit }
     ensures read { IfOk result (ItemRead input_limit offset (P.stock lender.old).free (S.left source.old) (S.left source.new)) }
+    ensures unwaited { IfOk result (λ item. IfSome item (λ _. S.waited source.new ≡ false)) }
     ensures missed { IfErr result (ItemMissed input_limit offset (S.left source.old) (S.left source.new)) }
     ensures causes { ItemCauses (S.faults source.old) (S.faults source.new) result }
     ensures lent { HasLent (given_pages pages_read result) (P.stock lender.old) (P.stock lender.new) }

@@ -14,7 +14,7 @@ invariant-frames g l = record {
   number : number_of l.pool ≡ 4096;
   all_in : l.pool.out ≡ 0;
   fresh : l.reader.refused ≡ None;
-  going : Going (vec_len l.fn.units) (loop_state l.fn.reader (g.S.Source.left l.fn.source) (stage (target g.D.Drive.state l.fn.units l.fn.drives) (g.K.Sink.written l.fn.sink)) l.fn.steps) (loop_state l.reader (g.S.Source.left l.source) (stage (target g.D.Drive.state l.units l.drives) (g.K.Sink.written l.sink)) l.steps);
+  going : Going (vec_len l.fn.units) (loop_state l.fn.reader (g.S.Source.left l.fn.source) (g.S.Source.waited l.fn.source) (stage (target g.D.Drive.state l.fn.units l.fn.drives) (g.K.Sink.written l.fn.sink)) l.fn.steps) (loop_state l.reader (g.S.Source.left l.source) (g.S.Source.waited l.source) (stage (target g.D.Drive.state l.units l.drives) (g.K.Sink.written l.sink)) l.steps);
   read_later : g.S.Source.faults l.fn.source ≤ g.S.Source.faults l.source;
   write_later : g.K.Sink.faults l.fn.sink ≤ g.K.Sink.faults l.sink;
 }

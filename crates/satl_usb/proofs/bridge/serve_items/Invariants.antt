@@ -13,7 +13,7 @@ invariant-items g l = record {
   none : l.replies ≡ [];
   idle : l.satl.tasks ≡ [];
   near : l.offset ≤ input_limit;
-  going : Going input_limit (spot (g.S.Source.left l.fn.source) (g.K.Sink.written l.fn.sink) (stand_of l.fn.satl (g.D.Drive.state l.fn.drive) l.fn.steps)) (spot (g.S.Source.left l.source) (g.K.Sink.written l.sink) (stand_of l.satl (g.D.Drive.state l.drive) l.steps)) l.kept l.offset;
+  going : Going input_limit (spot (g.S.Source.left l.fn.source) (g.S.Source.waited l.fn.source) (g.K.Sink.written l.fn.sink) (stand_of l.fn.satl (g.D.Drive.state l.fn.drive) l.fn.steps)) (spot (g.S.Source.left l.source) (g.S.Source.waited l.source) (g.K.Sink.written l.sink) (stand_of l.satl (g.D.Drive.state l.drive) l.steps)) l.kept l.offset;
   read_later : g.S.Source.faults l.fn.source ≤ g.S.Source.faults l.source;
   write_later : g.K.Sink.faults l.fn.sink ≤ g.K.Sink.faults l.sink;
 }
