@@ -57,7 +57,7 @@ IsStopped form limit before after faults.Write = IsServedInPart form limit befor
 
 -- what the result of serving says, whatever it gives of an input that was served up to END (profile): what holds by the fault,
 -- and why it is that one; a drive whose data are refused is told so, unless there was no memory; and a good input is served up
--- to END where all goes well, and no byte behind it is read or waited for
+-- to END where all goes well, and no byte behind it is read
 pub record ResultSays {A : Type 0} (form : Form) (limit : ℕ) (before after : Moment)
     (result : Result A ServeFault) : Type 0 where
   pub stopped : IfErr result (IsStopped form limit before after)
