@@ -22,7 +22,7 @@ use Rattle.satl_line.specs.Outlines.{IsOutline, is_active, no_outline, outline_i
 use Rattle.satl_line.specs.Conflict.{access_of, conflicts}
 use Rattle.satl_line.specs.Eligible.{eligible_at, is_clear_by}
 use Rattle.satl_line.specs.Tasks.{AreOwnSlots, AreMasks, is_barred_from, entries_of, Held, count_of, slots_of, total_blocks, entry_at, Adds, with_body}
-use Rattle.satl_line.specs.Layout.{SlotAccess, mark_of, is_marked, IsMask, HaveMasks, IsMasked, clear_bit, cleared, held_in, tasks_in, AreNoted, IsNoted, with_slot, CountLowBytes, has_low_byte, low_byte, one_fewer, one_more, SetInMemory, FitTogether, is_unbarred_at}
+use Rattle.satl_line.specs.Layout.{SlotAccess, mark_of, is_marked, IsMask, HaveMasks, IsMasked, clear_bit, cleared, held_in, tasks_in, AreNoted, IsNoted, with_slot, CountLowBytes, has_low_byte, low_byte, one_fewer, one_more, SetInMemory, FitTogether}
 use Rattle.satl_line.proofs.CountsLemmas.{counted_few, counted_more, counted_out}
 use Rattle.satl_line.proofs.OutlinesLemmas.{EachIs, outline_with}
 use Rattle.satl_line.proofs.MasksLemmas.{bit, with_slot_here, with_slot_other, HasNot, AreSmall, is_struck, zero_mask, are_removed, are_added, get_or-cleared}
@@ -499,47 +499,6 @@ free_more k free free' lt is h =
 
     other_above : (q : ℕ) → k + 1 ≤ q → count_of q (k ∷ []) ≡ 0
     other_above q h = count_other q k (differ q (λ e. omega arith))
-
--- ---- places that are ready
-
-abbrev pub is_free_below : List ℕ → List ℕ → ℕ → ℕ → Bool
-is_free_below masks order i p = nat_lt p i && (get_or masks (get_or order p 0) 0 == 0)
-
-lt_other : (p i : ℕ) → (p == i) ≡ false → nat_lt p (i + 1) ≡ nat_lt p i
-lt_other p i other =
-    (elim (nat_lt p i) as (λ b. nat_lt p i ≡ b → nat_lt p (i + 1) ≡ b) [
-      | true ↦ λ e. let below = ltb-true p i e in lt-ltb p (i + 1) (omega arith)
-      | false ↦ λ e. le-ltb p (i + 1) (let above = ltb-false p i e in let differs = eqb-false p i other in omega arith)
-    ]) refl
-
--- one more place is looked at
-module _ (masks order : List ℕ) (i free new : ℕ) (small : i < 64) (so_far : (p : ℕ) → p < 64 → bit_at free p ≡ bit (is_free_below masks order i p)) where
-  away : (p : ℕ) → (p == i) ≡ false → is_free_below masks order i p ≡ is_free_below masks order (i + 1) p
-  away p other = ap (λ b. b && (get_or masks (get_or order p 0) 0 == 0)) (sym (lt_other p i other))
-
-  pub free_step_yes : (get_or masks (get_or order i 0) 0 == 0) ≡ true → new ≡ bit_or free (1 * 2 ^ i % 2 ^ 64) → (p : ℕ) → p < 64 → bit_at new p ≡ bit (is_free_below masks order (i + 1) p)
-  free_step_yes zero_there new_is = λ p lt. ap (λ v. bit_at v p) new_is ∙ (elim (p == i) as (λ b. (p == i) ≡ b → bit_at (bit_or free (1 * 2 ^ i % 2 ^ 64)) p ≡ bit (is_free_below masks order (i + 1) p)) [
-    | true ↦ λ e. subst (λ r. bit_at (bit_or free (1 * 2 ^ i % 2 ^ 64)) r ≡ bit (is_free_below masks order (i + 1) r)) (sym (eqb-true p i e))
-        (bit_at_set_same w64 free i small ∙ ap bit (sym (ap (λ b. b && (get_or masks (get_or order i 0) 0 == 0)) (lt-ltb i (i + 1) (omega arith)) ∙ zero_there)))
-    | false ↦ λ e. bit_at_set_other w64 free i small p (eqb-false p i e) ∙ so_far p lt ∙ ap bit (away p e)
-  ]) refl
-
-  pub free_step_no : (get_or masks (get_or order i 0) 0 == 0) ≡ false → new ≡ free → (p : ℕ) → p < 64 → bit_at new p ≡ bit (is_free_below masks order (i + 1) p)
-  free_step_no other_there new_is = λ p lt. ap (λ v. bit_at v p) new_is ∙ so_far p lt ∙ ap bit ((elim (p == i) as (λ b. (p == i) ≡ b → is_free_below masks order i p ≡ is_free_below masks order (i + 1) p) [
-    | true ↦ λ e. subst (λ r. is_free_below masks order i r ≡ is_free_below masks order (i + 1) r) (sym (eqb-true p i e))
-        (and_right (nat_lt i i) _ other_there ∙ sym (and_right (nat_lt i (i + 1)) _ other_there))
-    | false ↦ λ e. away p e
-  ]) refl)
-
--- a place has a mask of 0 exactly where its task is eligible
-pub free_is : (slots : List Entry) (order seen masks : List ℕ) (tasks : List Held) (p : ℕ) → seen ≡ order → tasks_in slots order ≡ tasks → AllByRecursion (λ q. q < 64) order → IsMasked (tasks_in slots order) masks → ((q : ℕ) → get_or masks q 0 < 2 ^ 64) →
-    is_unbarred_at masks seen p ≡ eligible_at (entries_of tasks) p
-free_is slots order seen masks tasks p same is taken are fits =
-    (elim (nat_lt p (length seen)) as (λ b. nat_lt p (length seen) ≡ b → (b && (get_or masks (get_or seen p 0) 0 == 0)) ≡ eligible_at (entries_of tasks) p) [
-      | true ↦ λ e. let below = ltb-true p (length seen) e in eligible_is slots order seen masks tasks p same is taken are (fits (get_or seen p 0)) (omega (arith, length-map order (held_in slots), ap length is, ap length same))
-      | false ↦ λ e. let above = ltb-false p (length seen) e in
-          ap (λ o. unwrap_or (option_map (is_clear_by conflicts (take p (entries_of tasks))) o) false) (sym (slice_get_past (entries_of tasks) p (omega (arith, length-map tasks (λ held. held.entry), length-map order (held_in slots), ap length is, ap length same))))
-    ]) refl
 
 -- ---- pages of a task
 

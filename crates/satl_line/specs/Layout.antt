@@ -62,10 +62,6 @@ clear_bit slot mask = bit_and mask (bit_not w64 (1 * 2 ^ slot % 2 ^ 64))
 abbrev pub cleared : List ℕ → ℕ → List ℕ
 cleared masks slot = slice_set (map (clear_bit slot) masks) slot 0
 
--- whether the mask of the task at a place is 0
-abbrev pub is_unbarred_at : List ℕ → List ℕ → ℕ → Bool
-is_unbarred_at masks order place = nat_lt place (length order) && (slice_index_or masks (slice_index_or order place 0) 0 == 0)
-
 -- a number, with the bit of a slot where that is to be noted
 abbrev pub with_slot : Bool → ℕ → ℕ → ℕ
 with_slot noted slot number = if noted then bit_or number (1 * 2 ^ slot % 2 ^ 64) else number

@@ -65,10 +65,6 @@ pub record Adds (old : List Held) (entry : Entry) (new : List Held) : Type 0 whe
 abbrev pub with_body : List Block → Held → Held
 with_body body held = record { slot = held.slot; entry = record held.entry { body = body } }
 
--- bit p is 1 exactly where a task stands at place p and is eligible (profile)
-abbrev pub IsReadyMask : List Held → ℕ → Type 0
-IsReadyMask tasks ready = (p : ℕ) → p < 64 → bit_at ready p ≡ (if eligible_at (entries_of tasks) p then 1 else 0)
-
 -- the bit of a task's slot is 1 exactly where the task is not eligible (profile)
 abbrev pub IsBarredMask : List Held → ℕ → Type 0
 IsBarredMask tasks barred = (place : ℕ) → (held : Held) → slice_get tasks place ≡ Some held →

@@ -7,8 +7,8 @@ ghost use Rattle.satl_base.specs.Limits.{most_held, most_tasks};
 ghost use Rattle.satl_base.specs.Lists.{change_at};
 ghost use Rattle.satl_line.specs.Conflict.{access_of, conflicts};
 ghost use Rattle.satl_line.specs.Eligible.{eligible_at};
-ghost use Rattle.satl_line.specs.Tasks.{Adds, AreMasks, AreOwnSlots, IsBarredMask, IsReadyMask, count_of, entries_of, entry_at, is_named, is_too_much, slots_of, total_blocks, with_body};
-ghost use Rattle.satl_line.specs.Layout.{AreBarred, IsMask, IsMaskAmong, cleared, held_in, is_unbarred_at, low_byte, mark_of, one_fewer, one_more, with_slot};
+ghost use Rattle.satl_line.specs.Tasks.{Adds, AreMasks, AreOwnSlots, IsBarredMask, count_of, entries_of, entry_at, is_named, is_too_much, slots_of, total_blocks, with_body};
+ghost use Rattle.satl_line.specs.Layout.{AreBarred, IsMask, IsMaskAmong, cleared, held_in, low_byte, mark_of, one_fewer, one_more, with_slot};
 ghost use Rattle.satl_line.specs.Outlines.{IsOutline, is_of_name, no_outline, outline_in, outlines_in};
 ghost use Rattle.satl_line.specs.Regions.{AllHaveTasks, MayLeaveOut};
 
@@ -196,13 +196,6 @@ impl TaskSet {
         ensures { result ≡ eligible_at (entries_of self.now) place }
     {
         mask_at(&self.masks, self.order.at(place)) == 0
-    }
-
-    /// The places with an eligible task, as the bits of a number, the lowest for place 0 (profile).
-    pub fn ready(&self) -> u64
-        ensures { IsReadyMask self.now result }
-    {
-        ready_places(&self.masks, self.order.as_slice())
     }
 
     /// The slots of the tasks that are not eligible, as the bits of a number (profile).
@@ -487,23 +480,6 @@ fn clear_slot(masks: &mut [u64], slot: u8, these: u64, barred: u64) -> u64
     barred
 }
 
-/// The places whose task has a mask of 0, as the bits of a number.
-fn ready_places(masks: &[u64], order: &[u8]) -> u64
-    requires room { length masks.now ≡ 64 }
-    requires few { length order.now ≤ 64 }
-    requires small { AllByRecursion (λ slot. slot < 64) order.now }
-    ensures bits { (p : ℕ) → p < 64 → bit_at result p ≡ (if is_unbarred_at masks.now order.now p then 1 else 0) }
-    ensures fits { (q : ℕ) → slice_index masks.now q < 2 ^ 64 }
-{
-    let mut ready = 0u64;
-    for place in 0..order.len() {
-        if mask_at(masks, order[place]) == 0 {
-            ready |= 1 << place;
-        }
-    }
-    ready
-}
-
 fn place_in(order: &[u8], slot: u8) -> Option<usize>
     ensures { result ≡ position_from (λ other. other == slot) 0 order.now }
 {
@@ -590,10 +566,10 @@ mod tests {
             assert!(rt; set.add(&mut task).is_ok());
             assert_eq!(rt; set.len(), 2);
             assert_eq!(rt; set.eligible(1), passes, "at {lba}");
-            assert_eq!(rt; set.ready(), if passes { 3 } else { 1 });
+            assert_eq!(rt; set.barred() == 0, passes);
             set.remove(0, &mut task);
             assert_eq!(rt; task.entry().tag, Tag(1));
-            assert_eq!(rt; set.ready(), 1);
+            assert_eq!(rt; set.barred(), 0);
         }
         Ok(())
     }
