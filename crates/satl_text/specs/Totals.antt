@@ -42,10 +42,6 @@ summary_of requests answers = record {
   sum = total (sum_by data_sum answers);
 }
 
--- the totals behind one request more (profile)
-abbrev pub with_request : Summary → Summary
-with_request u = record u { requests = total (u.requests + 1) }
-
 -- the totals behind one answer more (profile)
 abbrev pub with_answer : Summary → Answer → Summary
 with_answer u answer = record {

@@ -62,16 +62,7 @@ pub struct Summary {
 impl Summary {
     ghost use Rattle.satl_frame.specs.Output.{Answer};
     ghost use Rattle.satl_frame.specs.Output.Answer.{replied};
-    ghost use Rattle.satl_text.specs.Totals.{summary_of, with_answer, with_request};
-
-    /// Counts a request (profile).
-    pub fn add_request(&mut self)
-        ensures grown { self.new ≡ with_request self.old }
-        ensures counted { (requests : ℕ) (answers : List Answer) → self.old ≡ summary_of requests answers
-            → self.new ≡ summary_of (requests + 1) answers }
-    {
-        self.requests = self.requests.saturating_add(1);
-    }
+    ghost use Rattle.satl_text.specs.Totals.{summary_of, with_answer};
 
     /// Counts a reply by its status, and its data-in (profile).
     pub fn add_reply(&mut self, reply: &Reply)
