@@ -495,7 +495,21 @@ impl Satl {
     }
 
     /// Takes pages back, at most as many as are out (profile).
+    // Inlined, so that a reply without data, as most are, costs no call.
+    #[inline(always)]
     pub fn recycle(&mut self, pages: Pages)
+        requires { length pages ≤ self.old.out }
+        ensures given { self.new ≡ record self.old { free = self.old.free + length pages; out = self.new.out } }
+        ensures out { self.new.out + length pages ≡ self.old.out }
+    {
+        if pages.blocks() > 0 {
+            self.take_back(pages);
+        }
+    }
+
+    /// Does what `recycle` does.
+    #[inline(never)]
+    fn take_back(&mut self, pages: Pages)
         requires { length pages ≤ self.old.out }
         ensures given { self.new ≡ record self.old { free = self.old.free + length pages; out = self.new.out } }
         ensures out { self.new.out + length pages ≡ self.old.out }

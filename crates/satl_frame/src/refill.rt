@@ -122,6 +122,8 @@ pub fn skip<S: Source>(source: &mut S, buffer: &mut [u8; CHUNK], len: u32) -> Re
 
 /// Takes bytes by a buffer into as many pages as they need and as are free, each of 512 bytes, with zeros behind the last byte.
 /// What does not fit is taken too, and dropped. Where a read fails no page is kept.
+// Inlined, so that a request without data-out, as most are, costs no call.
+#[inline(always)]
 pub fn pull_by<S: Source, P: Lender>(
     source: &mut S,
     buffer: &mut [u8; CHUNK],
@@ -137,6 +139,23 @@ pub fn pull_by<S: Source, P: Lender>(
     if len == 0 {
         return Ok(Pages::default());
     }
+    pull_some(source, buffer, lender, len)
+}
+
+/// Does what `pull_by` does.
+#[inline(never)]
+fn pull_some<S: Source, P: Lender>(
+    source: &mut S,
+    buffer: &mut [u8; CHUNK],
+    lender: &mut P,
+    len: u32,
+) -> Result<Pages, PullError>
+    ensures filled { IfOk result (TookPages (S.left source.old) (S.left source.new) len (P.stock lender.old).free) }
+    ensures stays { StaysUnwaited (S.waited source.old) (S.waited source.new) result }
+    ensures stopped { Stopped (S.left source.old) (S.left source.new) len result }
+    ensures causes { PullCauses (S.left source.old) (S.left source.new) len (S.faults source.old) (S.faults source.new) result }
+    ensures lent { HasLent (given_pages length result) (P.stock lender.old) (P.stock lender.new) }
+{
     let mut todo = lender.lend(len.div_ceil(512).min(lender.room()));
     let mut done = Pages::default();
     match fill_pages(source, buffer, len, &mut todo, &mut done) {

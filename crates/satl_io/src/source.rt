@@ -27,8 +27,8 @@ pub trait Source {
     /// The bytes that the source has read ahead: a front of those that are left.
     ghost ahead: { Self → List ℕ };
 
-    /// Whether it may have waited for a byte since it last gave one: whoever owes an answer has waited too early then. A source that
-    /// cannot wait says no.
+    /// Whether it may have waited for a byte since it last gave one: whoever owes an answer has waited too early then. A source
+    /// that cannot wait says no.
     ghost waited: { Self → Bool };
 
     /// How often a read has failed. The count never falls, and stands still at 2^64 - 1.
