@@ -24,6 +24,16 @@ pub struct Transfer {
     pub count: u16,
 }
 
+impl Transfer {
+    fn cdb(&self) -> [u8; 16] {
+        let [lba_high, lba_low] = self.lba.to_be_bytes();
+        let [count_high, count_low] = self.count.to_be_bytes();
+        [
+            self.code, 0, 0, 0, lba_high, lba_low, 0, count_high, count_low, 0, 0, 0, 0, 0, 0, 0,
+        ]
+    }
+}
+
 pub fn write(tag: u8, lba: u16, count: u16) -> Transfer {
     Transfer {
         code: 0x2A,
@@ -54,24 +64,41 @@ pub fn output(alloc: Global) -> Result<Vec<u8>, AllocError> {
 pub fn request(input: &mut Vec<u8>, transfer: Transfer, data_out: &[u8]) -> Result<(), AllocError>
     requires { length data_out.now ≤ 2097152 }
 {
-    input.push(0x01)?;
-    input.extend_from_slice(&(data_out.len() as u32 + 30).to_be_bytes())?;
-    input.extend_from_slice(&[0; 13])?;
-    input.push(transfer.tag)?;
-    input.extend_from_slice(&[transfer.code, 0, 0, 0])?;
-    input.extend_from_slice(&transfer.lba.to_be_bytes())?;
-    input.push(0)?;
-    input.extend_from_slice(&transfer.count.to_be_bytes())?;
-    input.extend_from_slice(&[0; 7])?;
-    input.extend_from_slice(data_out)
+    command_with(input, transfer.tag, transfer.cdb(), data_out)
 }
 
 /// Appends a REQUEST without data-out, SIMPLE and to logical unit 0 from nexus 0, by its bytes.
 pub fn command(input: &mut Vec<u8>, tag: u8, cdb: [u8; 16]) -> Result<(), AllocError> {
-    input.extend_from_slice(&[0x01, 0, 0, 0, 30])?;
+    command_with(input, tag, cdb, &[])
+}
+
+/// Appends a REQUEST, SIMPLE and to logical unit 0 from nexus 0, by its bytes and with this data-out.
+pub fn command_with(
+    input: &mut Vec<u8>,
+    tag: u8,
+    cdb: [u8; 16],
+    data_out: &[u8],
+) -> Result<(), AllocError>
+    requires { length data_out.now ≤ 2097152 }
+{
+    input.push(0x01)?;
+    input.extend_from_slice(&(data_out.len() as u32 + 30).to_be_bytes())?;
     input.extend_from_slice(&[0; 13])?;
     input.push(tag)?;
-    input.extend_from_slice(&cdb)
+    input.extend_from_slice(&cdb)?;
+    input.extend_from_slice(data_out)
+}
+
+/// Appends an UNMAP of blocks, at most 255, from an address below 256 on. Bytes 7 and 8 of the CDB are the length of its list
+/// (SBC-3 5.28).
+pub fn unmap(input: &mut Vec<u8>, tag: u8, lba: u8, count: u8) -> Result<(), AllocError> {
+    let mut list = [0; 24];
+    list[1] = 22;
+    list[3] = 16;
+    list[15] = lba;
+    list[19] = count;
+    let cdb = [0x42, 0, 0, 0, 0, 0, 0, 0, 24, 0, 0, 0, 0, 0, 0, 0];
+    command_with(input, tag, cdb, &list)
 }
 
 /// Appends a REPLY with GOOD and this data-in.

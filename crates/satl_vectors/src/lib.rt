@@ -4,6 +4,8 @@
 #[cfg(test)]
 mod at_once;
 #[cfg(test)]
+mod ata_commands;
+#[cfg(test)]
 mod changed_drives;
 #[cfg(test)]
 mod fleet;
@@ -35,5 +37,7 @@ mod tests;
 mod totals;
 #[cfg(test)]
 mod usb;
+#[cfg(test)]
+mod watched;
 #[cfg(test)]
 mod words;

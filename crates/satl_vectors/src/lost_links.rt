@@ -1,7 +1,7 @@
 // Generated scripts whose link is lost at each call of the drive, one after the other.
 ghost use Rattle.std.specs.Prelude.{◌≡◌, ◌*◌, IfOk, vec_len};
 
-use crate::frames::{END, ENDED, FLUSH, TURN, Transfer, command, input, read, request};
+use crate::frames::{END, ENDED, FLUSH, TURN, Transfer, command, input, read, request, unmap};
 use crate::replaying::{pieces, replay, run_until_lost};
 use satl_top::Status;
 use std::alloc::{AllocError, Global};
@@ -114,20 +114,6 @@ fn blocks(alloc: Global, fill: u8, count: u8) -> Result<Vec<u8>, AllocError>
     vec![in alloc; fill; 512 * usize::from(count)]
 }
 
-/// Appends an UNMAP of the blocks of a step. The length of its list stands where a READ has its count (SBC-3 5.28).
-fn unmap(frames: &mut Vec<u8>, step: &Step) -> Result<(), AllocError> {
-    let mut list = [0u8; 24];
-    list[1] = 22;
-    list[3] = 16;
-    list[15] = step.lba;
-    list[19] = step.count;
-    let transfer = Transfer {
-        code: 0x42,
-        ..read(step.tag, 0, 24)
-    };
-    request(frames, transfer, &list)
-}
-
 /// Appends the frame of a step.
 fn add_step(frames: &mut Vec<u8>, alloc: Global, step: &Step) -> Result<(), AllocError> {
     match step.action {
@@ -139,7 +125,7 @@ fn add_step(frames: &mut Vec<u8>, alloc: Global, step: &Step) -> Result<(), Allo
         Action::Flush => command(frames, step.tag, FLUSH),
         Action::Verify => request(frames, step.transfer(0x2F), &[]),
         Action::WriteSame => request(frames, step.transfer(0x41), &[step.fill(); 512]),
-        Action::Unmap => unmap(frames, step),
+        Action::Unmap => unmap(frames, step.tag, step.lba, step.count),
         Action::Turn => frames.extend_from_slice(&TURN),
     }
 }
