@@ -150,6 +150,27 @@ fn strike(alloc: Global, which: u8, lba: u8) -> Result<Vec<u8>, AllocError> {
     [0x04, 0, 0, 0, 10, 1, which, 0, 0, 0, 0, 0, 0, 0, lba].to_vec(alloc)
 }
 
+/// TEST UNIT READY, REQUEST SENSE, INQUIRY, MODE SENSE for all pages (byte 2), READ CAPACITY, REPORT LUNS, and a code that is not
+/// served.
+#[test]
+fn what_is_answered_at_once_hands_in_nothing(rt: HostRuntime) -> Result<(), Fail> {
+    let alloc = rt.alloc();
+    let codes = [
+        (0x00, 0),
+        (0x03, 0),
+        (0x12, 0),
+        (0x1A, 0x3F),
+        (0x25, 0),
+        (0xA0, 0),
+        (0xFF, 0),
+    ];
+    for (code, page) in codes {
+        let cdb = [code, 0, page, 0, 36, 0, 0, 0, 0, 0, 0, 0, 0, 0, 0, 0];
+        expect_for(&rt, alloc, cdb, &[], &[])?;
+    }
+    Ok(())
+}
+
 /// START STOP UNIT, with this byte for NO_FLUSH (bit 2) and START (bit 0).
 fn start_stop(byte: u8) -> [u8; 16] {
     [0x1B, 0, 0, 0, byte, 0, 0, 0, 0, 0, 0, 0, 0, 0, 0, 0]
