@@ -5,13 +5,14 @@ ghost use Rattle.satl_disk.specs.Disk.{state_of};
 ghost use Rattle.satl_barrier.specs.Leaving.{IsFree};
 
 use crate::frames::{END, FLUSH, TURN, command, command_with, input, read, request, unmap};
-use crate::replaying::{alone, pieces, run_on};
-use crate::watched::{Handed, WatchedDrive};
+use crate::watched::{Handed, WatchedDrive, served};
 use satl_disk::ModelDrive;
 use satl_drive::Registers;
-use satl_top::Status;
+use satl_io::{MemorySink, MemorySource};
 use std::alloc::{AllocError, Global};
+use std::marker::Brand;
 use std::process::Abort;
+use std::sync::ledger::Blank;
 use std::test::Fail;
 
 /// COMMAND (ACS-3 section 7).
@@ -111,11 +112,13 @@ fn expect_on(
     let mut script = input(alloc)?;
     script.extend_from_slice(frames)?;
     script.extend_from_slice(&END)?;
-    let mut drives = alone(alloc, WatchedDrive::new(drive))?;
-    let (ended, _) = run_on(alloc, &["replay"], script, pieces(65536), &mut drives)?;
-    assert_eq!(rt; ended, Status::Done);
+    let mut source = MemorySource::new(script, 65536, Vec::new(alloc));
+    let mut sink = MemorySink::new(alloc, 131072, 65536, Vec::new(alloc))?;
+    let mut drive = WatchedDrive::new(drive);
+    let blank = Blank::new(1);
+    assert!(rt; served::<Brand>(alloc, &mut source, &mut sink, &mut drive, blank).is_ok());
     let mut handed = Vec::new(alloc);
-    for one in drives[0].handed() {
+    for one in drive.handed() {
         handed.push(untagged(one))?;
     }
     let mut expected = Vec::new(alloc);
@@ -289,11 +292,7 @@ fn blocks_are_trimmed_by_one_command(rt: HostRuntime) -> Result<(), Fail> {
     expect_for(&rt, alloc, write_same(0x08), &[0; 512], &unqueued)?;
     let mut frames = Vec::new(alloc);
     unmap(&mut frames, 1, 8, 100)?;
-    expect(&rt, alloc, &frames, &[queued(SEND_QUEUED, 0, 1, false)])?;
-    // Word 77 says whether a drive queues trims.
-    let mut drive = ModelDrive::new(alloc, 8192)?;
-    drive.set_identify_word(77, 0);
-    expect_on(&rt, alloc, drive, &frames, &unqueued)
+    expect(&rt, alloc, &frames, &[queued(SEND_QUEUED, 0, 1, false)])
 }
 
 /// A READ(10) and a WRITE(10) of two blocks, each without FUA and with it (byte 1, bit 3).

@@ -9,7 +9,6 @@ ghost use Rattle.satl_barrier.specs.Leaving.{IsFree};
 use crate::frames::{END, ENDED};
 use satl_base::{NoMemory, Steps};
 use satl_disk::ModelDrive;
-use satl_drive::Bench;
 use satl_io::{MemorySink, MemorySource};
 use satl_top::{Status, program};
 use std::alloc::{AllocError, Global};
@@ -65,17 +64,17 @@ fn words(alloc: Global, given: &[&str]) -> Result<Vec<RcStr>, NoMemory> {
 }
 
 /// What the program does with these words; its calls of the drives are counted on a blank page of a ledger.
-fn counted<D: Bench<L>, L: Ledger>(
+fn counted<L: Ledger>(
     alloc: Global,
     words: &[RcStr],
     source: &mut MemorySource,
     sink: &mut MemorySink,
-    drives: &mut Vec<D>,
+    drives: &mut Vec<ModelDrive>,
     blank: Blank,
 ) -> Status
     requires few { vec_len drives.old ≤ 4 }
     requires one { 1 ≤ vec_len drives.old }
-    requires free { AllByRecursion IsFree (map D.state drives.old.items) }
+    requires free { AllByRecursion IsFree (map state_of drives.old.items) }
     requires name { blank.name ≡ L.name }
     requires parts { blank.parts ≡ L.parts }
     requires some { 0 < blank.parts }
@@ -86,35 +85,35 @@ fn counted<D: Bench<L>, L: Ledger>(
 
 /// How the program ends with these words behind its name, over this source and these drives, and what it writes to a sink of
 /// these streams.
-fn run_over<D: Bench<Brand>>(
+fn run_over(
     alloc: Global,
     given: &[&str],
     source: &mut MemorySource,
     streams: Streams,
-    drives: &mut Vec<D>,
+    drives: &mut Vec<ModelDrive>,
 ) -> Result<(Status, Vec<u8>), NoMemory>
     requires some { 1 ≤ vec_len drives.old }
     requires few { vec_len drives.old ≤ 4 }
-    requires free { AllByRecursion IsFree (map D.state drives.old.items) }
+    requires free { AllByRecursion IsFree (map state_of drives.old.items) }
 {
     let words = words(alloc, given)?;
     let failing = calls(alloc, streams.failing_write)?;
     let mut sink = MemorySink::new(alloc, 131072, streams.piece.max(1), failing)?;
-    let status = counted::<D, Brand>(alloc, &words, source, &mut sink, drives, Blank::new(1));
+    let status = counted::<Brand>(alloc, &words, source, &mut sink, drives, Blank::new(1));
     Ok((status, sink.written().to_vec(alloc)?))
 }
 
 /// How the program ends with these words behind its name, over these drives, and what it writes.
-pub fn run_on<D: Bench<Brand>>(
+pub fn run_on(
     alloc: Global,
     given: &[&str],
     input: Vec<u8>,
     streams: Streams,
-    drives: &mut Vec<D>,
+    drives: &mut Vec<ModelDrive>,
 ) -> Result<(Status, Vec<u8>), NoMemory>
     requires some { 1 ≤ vec_len drives.old }
     requires few { vec_len drives.old ≤ 4 }
-    requires free { AllByRecursion IsFree (map D.state drives.old.items) }
+    requires free { AllByRecursion IsFree (map state_of drives.old.items) }
 {
     let failing = calls(alloc, streams.failing_read)?;
     let mut source = MemorySource::new(input, streams.piece.max(1), failing);
@@ -122,10 +121,10 @@ pub fn run_on<D: Bench<Brand>>(
 }
 
 /// This drive alone.
-pub fn alone<D: Bench<Brand> + Drop>(alloc: Global, drive: D) -> Result<Vec<D>, NoMemory>
-    requires { IsFree (D.state drive) }
+fn alone(alloc: Global, drive: ModelDrive) -> Result<Vec<ModelDrive>, NoMemory>
+    requires { IsFree (state_of drive) }
     ensures count { IfOk result (λ drives. vec_len drives ≡ 1) }
-    ensures free { IfOk result (λ drives. AllByRecursion IsFree (map D.state drives.items)) }
+    ensures free { IfOk result (λ drives. AllByRecursion IsFree (map state_of drives.items)) }
 {
     let mut drives = Vec::new(alloc);
     drives.push(drive)?;

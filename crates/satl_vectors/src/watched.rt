@@ -1,14 +1,19 @@
 // A drive that keeps what it was handed.
-ghost use Rattle.std.specs.Prelude.{◌≡◌};
+ghost use Rattle.std.specs.Prelude.{◌≡◌, ◌<◌};
 ghost use Rattle.satl_disk.specs.Disk.{state_of};
+ghost use Rattle.satl_barrier.specs.Leaving.{IsFree};
 
 use arrayvec::ArrayVec;
 use satl_base::{Pages, Steps, Which};
 use satl_disk::ModelDrive;
 use satl_drive::{Bench, Drive, LinkDown, Registers, Report, Taskfile};
+use satl_io::{MemorySink, MemorySource};
 use satl_pages::Dma;
+use satl_serve::{Form, ServeFault, serve};
+use satl_text::Summary;
+use std::alloc::Global;
 use std::marker::Model;
-use std::sync::ledger::Ledger;
+use std::sync::ledger::{Blank, Ledger};
 
 /// What a drive was handed: a command, queued or not, by its registers, or a soft reset.
 #[derive(Clone, Copy, Debug, Default, PartialEq, Eq)]
@@ -108,4 +113,21 @@ impl<L: Ledger> Bench<L> for WatchedDrive {
     fn unplug(&mut self) {
         Bench::<L>::unplug(&mut self.drive);
     }
+}
+
+/// How serving an input over the drive ends; its calls are counted on a blank page of a ledger.
+pub fn served<L: Ledger>(
+    alloc: Global,
+    source: &mut MemorySource,
+    sink: &mut MemorySink,
+    drive: &mut WatchedDrive,
+    blank: Blank,
+) -> Result<Summary, ServeFault>
+    requires free { IsFree (state_of drive.old) }
+    requires name { blank.name ≡ L.name }
+    requires parts { blank.parts ≡ L.parts }
+    requires some { 0 < blank.parts }
+{
+    let mut steps = Steps::<L>::new(blank);
+    serve(alloc, Form::Frames, source, sink, drive, &mut steps)
 }
