@@ -292,7 +292,11 @@ fn blocks_are_trimmed_by_one_command(rt: HostRuntime) -> Result<(), Fail> {
     expect_for(&rt, alloc, write_same(0x08), &[0; 512], &unqueued)?;
     let mut frames = Vec::new(alloc);
     unmap(&mut frames, 1, 8, 100)?;
-    expect(&rt, alloc, &frames, &[queued(SEND_QUEUED, 0, 1, false)])
+    expect(&rt, alloc, &frames, &[queued(SEND_QUEUED, 0, 1, false)])?;
+    // Word 77 says whether a drive queues trims.
+    let mut drive = ModelDrive::new(alloc, 8192)?;
+    drive.set_identify_word(77, 0);
+    expect_on(&rt, alloc, drive, &frames, &unqueued)
 }
 
 /// A READ(10) and a WRITE(10) of two blocks, each without FUA and with it (byte 1, bit 3).
