@@ -9,6 +9,7 @@ use crate::watched::{Handed, WatchedDrive, served};
 use satl_disk::ModelDrive;
 use satl_drive::Registers;
 use satl_io::{MemorySink, MemorySource};
+use satl_serve::Form;
 use std::alloc::{AllocError, Global};
 use std::marker::Brand;
 use std::process::Abort;
@@ -115,8 +116,15 @@ fn expect_on(
     let mut source = MemorySource::new(script, 65536, Vec::new(alloc));
     let mut sink = MemorySink::new(alloc, 131072, 65536, Vec::new(alloc))?;
     let mut drive = WatchedDrive::new(drive);
-    let blank = Blank::new(1);
-    assert!(rt; served::<Brand>(alloc, &mut source, &mut sink, &mut drive, blank).is_ok());
+    let end = served::<Brand>(
+        alloc,
+        Form::Frames,
+        &mut source,
+        &mut sink,
+        &mut drive,
+        Blank::new(1),
+    );
+    assert!(rt; end.is_ok());
     let mut handed = Vec::new(alloc);
     for one in drive.handed() {
         handed.push(untagged(one))?;

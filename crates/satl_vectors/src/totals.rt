@@ -1,35 +1,13 @@
 // The totals of an input that is served.
-ghost use Rattle.std.specs.Prelude.{◌≡◌, ◌<◌, [], None};
-ghost use Rattle.satl_disk.specs.Disk.{state_of};
-ghost use Rattle.satl_barrier.specs.Leaving.{IsFree};
-
 use crate::frames::{END, TURN, input, read, request, write};
-use satl_base::Steps;
+use crate::watched::{WatchedDrive, served};
 use satl_disk::ModelDrive;
 use satl_io::{MemorySink, MemorySource};
-use satl_serve::{Form, ServeFault, serve};
+use satl_serve::Form;
 use satl_text::Summary;
-use std::alloc::Global;
 use std::marker::Brand;
-use std::sync::ledger::{Blank, Ledger};
+use std::sync::ledger::Blank;
 use std::test::Fail;
-
-fn served<L: Ledger>(
-    alloc: Global,
-    form: Form,
-    source: &mut MemorySource,
-    sink: &mut MemorySink,
-    drive: &mut ModelDrive,
-    blank: Blank,
-) -> Result<Summary, ServeFault>
-    requires free { IsFree (state_of drive.old) }
-    requires name { blank.name ≡ L.name }
-    requires parts { blank.parts ≡ L.parts }
-    requires some { 0 < blank.parts }
-{
-    let mut steps = Steps::<L>::new(blank);
-    serve(alloc, form, source, sink, drive, &mut steps)
-}
 
 /// A write and a read of a block, and a read beyond the capacity: the same totals in each form, and no byte where answers are
 /// counted.
@@ -53,7 +31,7 @@ fn totals(rt: HostRuntime) -> Result<(), Fail> {
         frames.extend_from_slice(&END)?;
         let mut source = MemorySource::new(frames, 4096, Vec::new(alloc));
         let mut sink = MemorySink::new(alloc, 65536, 4096, Vec::new(alloc))?;
-        let mut drive = ModelDrive::new(alloc, 8192)?;
+        let mut drive = WatchedDrive::new(ModelDrive::new(alloc, 8192)?);
         let totals = served::<Brand>(
             alloc,
             form,

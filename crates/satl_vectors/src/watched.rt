@@ -115,9 +115,10 @@ impl<L: Ledger> Bench<L> for WatchedDrive {
     }
 }
 
-/// How serving an input over the drive ends; its calls are counted on a blank page of a ledger.
+/// How serving an input over the drive ends, answered in this form; its calls are counted on a blank page of a ledger.
 pub fn served<L: Ledger>(
     alloc: Global,
+    form: Form,
     source: &mut MemorySource,
     sink: &mut MemorySink,
     drive: &mut WatchedDrive,
@@ -129,5 +130,5 @@ pub fn served<L: Ledger>(
     requires some { 0 < blank.parts }
 {
     let mut steps = Steps::<L>::new(blank);
-    serve(alloc, Form::Frames, source, sink, drive, &mut steps)
+    serve(alloc, form, source, sink, drive, &mut steps)
 }
