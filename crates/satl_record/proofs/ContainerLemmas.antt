@@ -8,7 +8,7 @@ use Rattle.byteorder.specs.Endian.{big_bytes, big_from}
 use Rattle.byteorder.specs.Numbers.{big_number-reads_back}
 use Rattle.satl_io.specs.Known.{Took}
 use Rattle.satl_io.proofs.Joined.{Took-more}
-use Rattle.satl_record.specs.Containers.{IsNoRecord, TookRecord, longest_part, record_bytes, record_magic}
+use Rattle.satl_record.specs.Containers.{IsNoRecord, IsRest, TookRecord, longest_part, record_bytes, record_magic}
 
 -- what follows the same bytes
 after_same : (zs xs ys : List ℕ) → zs ++ xs ≡ zs ++ ys → xs ≡ ys
@@ -99,3 +99,12 @@ module _ (n : ℕ) (small : n ≤ longest_part) where
 
 pub no_output : (n : ℕ) → n ≤ longest_part → {a b c d : Option (List ℕ)} (input output : List ℕ) → Took a b (record_magic ++ big_bytes 8 n) → Took b c input → Took c d output → length input ≡ n → longest_part < length output → IsNoRecord a
 no_output n small {a} {b} {c} {d} input output first second third size long = no_output_by n small a b c d input output first second third size long
+
+-- ---- the rest of a source
+
+pub rest_taken : {a b : Option (List ℕ)} {xs : List ℕ} → Took a b xs → IsRest a b
+rest_taken {xs} took = record { taken = xs; took = took }
+
+-- a rest of a rest
+pub rest_more : {a b c : Option (List ℕ)} → IsRest a b → IsRest b c → IsRest a c
+rest_more first second = record { taken = first.taken ++ second.taken; took = Took-more first.took second.took }

@@ -30,3 +30,8 @@ pub record TookRecord (left left' : Option (List ℕ)) (input output : List ℕ)
 -- these bytes are those of no record
 abbrev pub IsNoRecord : Option (List ℕ) → Type 0
 IsNoRecord left = IfSome left (λ bytes. (input output : List ℕ) → AreShort input output → bytes ≡ record_bytes input output → ⊥)
+
+-- bytes were taken from the front, and those left are the rest
+pub record IsRest (left left' : Option (List ℕ)) : Type 0 where
+  pub taken : List ℕ
+  pub took : Took left left' taken

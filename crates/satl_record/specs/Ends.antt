@@ -13,7 +13,7 @@ use Rattle.satl_cover.specs.declared.fault.AuditFault.TheVariants as audits
 use Rattle.satl_audit.specs.declared.verdict.Verdict.{Verdict}
 use Rattle.satl_audit.specs.declared.verdict.Verdict.TheVariants as says
 use Rattle.satl_audit.specs.Judged.{Judged}
-use Rattle.satl_record.specs.Containers.{IsNoRecord, TookRecord}
+use Rattle.satl_record.specs.Containers.{IsNoRecord, IsRest, TookRecord}
 use Rattle.satl_record.specs.declared.fault.RecordFault.{RecordFault}
 use Rattle.satl_record.specs.declared.fault.RecordFault.TheVariants as faults
 
@@ -42,8 +42,8 @@ pub record Finds (identify : List ℕ) (left left' : Option (List ℕ)) (found :
   pub took : TookRecord left left' input output
   pub judged : Judged identity input output found
 
--- how the judging of a record ends: told in a line; or in a front of one; or nothing is written, and nothing is read of a
--- source whose drive is refused
+-- how the judging of a record ends: told in a line; or in a front of one; or nothing is written, and of the source a front was
+-- read, or nothing where the drive is refused
 abbrev pub RecordEnds : List ℕ → Option (List ℕ) → Option (List ℕ) → Option (List ℕ) → Option (List ℕ)
     → Result Verdict RecordFault → Type 0
 RecordEnds identify left left' written written' (Ok verdict) =
@@ -53,10 +53,11 @@ RecordEnds identify left left' written written' (Err faults.BadInput) = (reason 
 RecordEnds identify left left' written written' (Err faults.Write) = (found : Result Verdict AuditFault)
     × (found ≢ Err audits.NoMemory) × Finds identify left left' found × WrotePart written written' (found_line found)
 RecordEnds identify left left' written written' (Err faults.NoRecord) =
-    IsServed identify × IsNoRecord left × (written' ≡ written)
-RecordEnds identify left left' written written' (Err faults.Read) = IsServed identify × (written' ≡ written)
+    IsServed identify × IsNoRecord left × IsRest left left' × (written' ≡ written)
+RecordEnds identify left left' written written' (Err faults.Read) =
+    IsServed identify × IsRest left left' × (written' ≡ written)
 RecordEnds identify left left' written written' (Err faults.Drive) = (left' ≡ left) × (written' ≡ written)
-RecordEnds identify left left' written written' (Err faults.NoMemory) = written' ≡ written
+RecordEnds identify left left' written written' (Err faults.NoMemory) = IsRest left left' × (written' ≡ written)
 
 -- a drive is refused for its data, or because its count of faults rose
 abbrev pub IsRefusedFor : List ℕ → ℕ → ℕ → Type 0

@@ -4,7 +4,7 @@ ghost use Rattle.byteorder.specs.Endian.{big_bytes};
 ghost use Rattle.std.specs.Io.KnownBytes.{IsAtEnd};
 ghost use Rattle.satl_io.specs.Causes.{HasCause, Rose};
 ghost use Rattle.satl_io.specs.Known.{Took};
-ghost use Rattle.satl_record.specs.Containers.{IsNoRecord, TookRecord, longest_part, record_magic};
+ghost use Rattle.satl_record.specs.Containers.{IsNoRecord, IsRest, TookRecord, longest_part, record_magic};
 ghost use Rattle.satl_record.specs.Faults.{IsReadFault};
 ghost use Rattle.satl_record.specs.declared.fault.RecordFault.TheVariants as faults;
 
@@ -46,6 +46,7 @@ fn read_piece<S: Source>(source: &mut S, piece: &mut [u8]) -> Result<usize, Reco
     ensures size { length piece.new ≡ length piece.old }
     ensures few { IfOk result (λ n. n ≤ length piece.old) }
     ensures ends { IfOk result (λ n. n < length piece.old → IsAtEnd (S.left source.new)) }
+    ensures rest { IsRest (S.left source.old) (S.left source.new) }
     ensures kinds { IfErr result (λ fault. fault ≡ faults.Read) }
     ensures cause { HasCause (S.faults source.old) (S.faults source.new) result }
 {
@@ -64,6 +65,7 @@ fn read_bytes<S: Source>(
     ensures took { IfOk result (λ bytes. Took (S.left source.old) (S.left source.new) bytes.items) }
     ensures few { IfOk result (λ bytes. length bytes.items ≤ count) }
     ensures ends { IfOk result (λ bytes. length bytes.items < count → IsAtEnd (S.left source.new)) }
+    ensures rest { IsRest (S.left source.old) (S.left source.new) }
     ensures other { IsErrOf result faults.NoRecord → ⊥ }
     ensures kinds { IfErr result IsReadFault }
     ensures later { S.faults source.old ≤ S.faults source.new }
@@ -104,6 +106,7 @@ fn told_length(head: &[u8]) -> Option<usize>
 fn read_head<S: Source>(source: &mut S) -> Result<usize, RecordFault>
     ensures took { IfOk result (λ n. Took (S.left source.old) (S.left source.new) (record_magic ++ big_bytes 8 n)) }
     ensures short { IfOk result (λ n. n ≤ longest_part) }
+    ensures rest { IsRest (S.left source.old) (S.left source.new) }
     ensures none { IsErrOf result faults.NoRecord → IsNoRecord (S.left source.old) }
     ensures kinds { IfErr result IsReadFault }
     ensures later { S.faults source.old ≤ S.faults source.new }
@@ -121,10 +124,11 @@ fn read_head<S: Source>(source: &mut S) -> Result<usize, RecordFault>
 }
 
 /// Reads a record, and its source to the end (profile). `NoRecord` where the bytes are none; `Read` only where the source's
-/// count of faults rose; `NoMemory` where there is none for the two parts.
+/// count of faults rose; `NoMemory` where there is none for the two parts. Each fault leaves a rest of the source.
 pub fn read_record<S: Source>(alloc: Global, source: &mut S) -> Result<Record, RecordFault>
     ensures took { IfOk result (λ found. TookRecord (S.left source.old)
         (S.left source.new) found.input.items found.output.items) }
+    ensures rest { IsRest (S.left source.old) (S.left source.new) }
     ensures none { IsErrOf result faults.NoRecord → IsNoRecord (S.left source.old) }
     ensures kinds { IfErr result IsReadFault }
     ensures later { S.faults source.old ≤ S.faults source.new }

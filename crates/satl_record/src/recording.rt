@@ -20,7 +20,7 @@ use std::sync::ledger::Ledger;
 /// Says in a line whether the record of a source is that of a run, for a device of the drive's identity (profile). The drive is
 /// called once at most, and left undisturbed. Each fault but `BadInput` and `Write` leaves the sink as it was: `Drive` comes
 /// first, and then nothing is read; `Read` and `Write` come only where the count of faults rose; `NoMemory` may come at any
-/// time.
+/// time. `NoRecord`, `Read` and `NoMemory` leave a rest of the source.
 pub fn audit_record<S: Source, K: Sink, D: Drive<L>, L: Ledger>(
     alloc: Global,
     source: &mut S,
