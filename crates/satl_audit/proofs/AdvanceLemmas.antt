@@ -16,7 +16,7 @@ use Rattle.satl_audit.specs.Deeds.Deed.{shows}
 use Rattle.satl_audit.specs.Finishing.{CannotTurn, Turns, TurnsOn}
 use Rattle.satl_audit.specs.Kept.{Keeping}
 use Rattle.satl_audit.specs.Skeleton.{pairs_shown}
-use Rattle.satl_audit.specs.declared.arriving.Steps.{Steps}
+use Rattle.satl_audit.specs.declared.arriving.Followed.{Followed}
 use Rattle.satl_audit.specs.Progress.{recorded, progress}
 
 -- ---- frames without their pages
@@ -52,8 +52,8 @@ cut_bench event frames.End e = absurd cc
 
 -- ---- events
 
-module _ (identity : Identity) (input : List ℕ) (old : Steps) (sectors : List Keeping) where
-  pub request_goes : (r : Request) (new : Steps) → ArrivesOn r (device_at identity input old) (device_at identity input new) old.output new.output → GoesOn (recorded identity input) (frames.Request r) (progress old sectors) (progress new sectors)
+module _ (identity : Identity) (input : List ℕ) (old : Followed) (sectors : List Keeping) where
+  pub request_goes : (r : Request) (new : Followed) → ArrivesOn r (device_at identity input old) (device_at identity input new) old.output new.output → GoesOn (recorded identity input) (frames.Request r) (progress old sectors) (progress new sectors)
   request_goes r new a = record {
     answers = map replied a.replies;
     deeds = shows (pairs_shown (device_at identity input old)) ∷ [];
@@ -66,7 +66,7 @@ module _ (identity : Identity) (input : List ℕ) (old : Steps) (sectors : List 
   pub request_sticks : (r : Request) → CannotArrive r (device_at identity input old) old.output → CannotGoOn (recorded identity input) (frames.Request r) (progress old sectors)
   request_sticks r cannot answers deeds new left e whole h = absurd (cannot e.0 new left e.2 (h ∙ ap (λ l. all_answered l ++ left) e.1))
 
-  pub turns_go : (count : ℕ) (new : Steps) (after : List Keeping) → TurnsOn (recorded identity input) count (progress old sectors) (progress new after) → GoesOn (recorded identity input) (frames.Turn count) (progress old sectors) (progress new after)
+  pub turns_go : (count : ℕ) (new : Followed) (after : List Keeping) → TurnsOn (recorded identity input) count (progress old sectors) (progress new after) → GoesOn (recorded identity input) (frames.Turn count) (progress old sectors) (progress new after)
   turns_go count new after t = record { answers = map replied t.replies; deeds = t.deeds; stepped = (t.replies, refl, t.done); whole = t.whole; said = t.said; follows = t.follows }
 
   pub turns_stick : (count : ℕ) → CannotTurn (recorded identity input) count (progress old sectors) → CannotGoOn (recorded identity input) (frames.Turn count) (progress old sectors)
@@ -75,7 +75,7 @@ module _ (identity : Identity) (input : List ℕ) (old : Steps) (sectors : List 
   pub order_goes : (order : _) → GoesOn (recorded identity input) (frames.Bench (events.Order order)) (progress old sectors) (progress old sectors)
   order_goes order = record { answers = []; deeds = []; stepped = (refl, (refl, refl)); whole = tt; said = refl; follows = (refl, λ x less. refl) }
 
-module _ (identity : Identity) (input : List ℕ) (old new : Steps) (sectors after : List Keeping) where
+module _ (identity : Identity) (input : List ℕ) (old new : Followed) (sectors after : List Keeping) where
   pub request_advances : (at : ℕ) (q : Request) (result : Bool) → (result ≡ true → Goes identity q at old new) → (result ≡ false → Sticks identity q at old) → (whole : Frame) → frames.Request q ≡ cut_to 0 whole → MayHappen input at old.waiting whole →
       Advances (recorded identity input) whole (progress old sectors) (progress new sectors) result
   request_advances at q result goes sticks whole cut may =

@@ -46,11 +46,11 @@ first_of zero ss = refl
 first_of (suc n) [] = refl
 first_of (suc n) (x ∷ ss) = first_of n ss
 
-pub caught_is : (n powers : ℕ) (ss : List Sweep) (k : Keeping) → has_power (drop n ss) ≡ nat_lt n powers → caught_up (drop n ss) k ≡ if_lost (nat_lt n powers) (after_first (slice_get ss n) k)
-caught_is n powers ss k lost =
+pub caught_is : (n at_loss : ℕ) (ss : List Sweep) (k : Keeping) → has_power (drop n ss) ≡ nat_lt n at_loss → caught_up (drop n ss) k ≡ if_lost (nat_lt n at_loss) (after_first (slice_get ss n) k)
+caught_is n at_loss ss k lost =
     from_first (drop n ss) k
     ∙ ap (λ (b : Bool). if_lost b (after_first (slice_get (drop n ss) 0) k)) lost
-    ∙ ap (λ (o : Option Sweep). if_lost (nat_lt n powers) (after_first o k)) (first_of n ss)
+    ∙ ap (λ (o : Option Sweep). if_lost (nat_lt n at_loss) (after_first o k)) (first_of n ss)
 
 -- what a slice gives at an index
 at_index : (ss : List Sweep) (n : ℕ) (y : Sweep) → n < length ss → HoldsAt (λ s. y ≡ s) ss n → Some y ≡ slice_get ss n

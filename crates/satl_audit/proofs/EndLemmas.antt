@@ -31,7 +31,7 @@ use Rattle.satl_audit.specs.Kept.{Keeping, known_sector_at}
 use Rattle.satl_audit.specs.Sectors.{sector_gives, sector_puts}
 use Rattle.satl_audit.specs.Skeleton.{DoneAs, TaskDone}
 use Rattle.satl_audit.specs.Waiting.{Placed, device_tasks, entries_in, task_in}
-use Rattle.satl_audit.specs.declared.arriving.Steps.{Steps}
+use Rattle.satl_audit.specs.declared.arriving.Followed.{Followed}
 use Rattle.satl_audit.specs.declared.reply.Name.{Name}
 use Rattle.satl_audit.specs.Progress.{compared, progress, recorded}
 use Rattle.satl_audit.proofs.Frames.{pages_whole}
@@ -42,7 +42,7 @@ use Rattle.satl_audit.proofs.EndWithin.{fits_at, no_other, write_body}
 use Rattle.satl_laws.proofs.Ends.{eligible_in as eligible_there}
 use Rattle.satl_laws.proofs.Rows.{in_all as all_of}
 
-module _ (identity : Identity) (input : List ℕ) (old : Steps) (place : ℕ) (p : Placed) (tasks : AreTasks identity input old.waiting) (at : slice_get old.waiting place ≡ Some p)
+module _ (identity : Identity) (input : List ℕ) (old : Followed) (place : ℕ) (p : Placed) (tasks : AreTasks identity input old.waiting) (at : slice_get old.waiting place ≡ Some p)
     (eligible : eligible_at (entries_in old.waiting) place ≡ true) (only : OnlyEnds old (Some place)) (waiting : List Placed) (left : List ℕ) (is : waiting ≡ remove old.waiting place) (sectors after : List Keeping) (same : length after ≡ length sectors) where
   abbrev s : Device
   s = device_at identity input old
@@ -53,7 +53,7 @@ module _ (identity : Identity) (input : List ℕ) (old : Steps) (place : ℕ) (p
   abbrev name : Name
   name = record { nexus = p.entry.nexus; tag = p.entry.tag }
 
-  abbrev new : Steps
+  abbrev new : Followed
   new = record { waiting = waiting; attentions = old.attentions; output = left }
 
   there : slice_get (device_tasks input old.waiting) place ≡ Some t

@@ -24,7 +24,7 @@ use Rattle.satl_audit.specs.Finishing.{AreTasks}
 use Rattle.satl_audit.specs.Judged.{IsTaken, Judged}
 use Rattle.satl_audit.specs.Kept.{Keeping}
 use Rattle.satl_audit.specs.Waiting.{AllFit}
-use Rattle.satl_audit.specs.declared.arriving.Steps.{Steps}
+use Rattle.satl_audit.specs.declared.arriving.Followed.{Followed}
 use Rattle.satl_audit.specs.declared.verdict.Verdict.TheVariants as says
 use Rattle.satl_audit.specs.Progress.{recorded, progress}
 use Rattle.satl_cover.specs.Known.{is_known_frame}
@@ -33,8 +33,8 @@ use Rattle.satl_audit.proofs.ReachLemmas.{good_here, known_here, may_here, reach
 use Rattle.satl_audit.proofs.VerdictLemmas.{explained_here, more_here, stuck_here}
 use Rattle.satl_audit.proofs.FollowGoes.{ends_last, Goes}
 
-module _ (identity : Identity) (is : IsIdentity identity) (input output : List ℕ) (all : List Frame) (taken : IsTaken identity input all) (reader : Reading) (left : List ℕ) (steps : Steps) (sectors : List Keeping)
-    (going : Goes identity input output reader left steps sectors) where
+module _ (identity : Identity) (is : IsIdentity identity) (input output : List ℕ) (all : List Frame) (taken : IsTaken identity input all) (reader : Reading) (left : List ℕ) (followed : Followed) (sectors : List Keeping)
+    (going : Goes identity input output reader left followed sectors) where
   to_end : ReadsToEnd reader.limit reader.newest input taken.whole.before []
   to_end =
       subst (λ (n : ℕ). ReadsToEnd n reader.newest input taken.whole.before []) (sym going.limit_is)
@@ -61,28 +61,28 @@ module _ (identity : Identity) (is : IsIdentity identity) (input output : List �
     ahead : (later : List Frame) × (all ≡ going.so_far ++ gave.whole ∷ later)
     ahead = let n = next_given reader new input taken.whole.before going.so_far [] (Some left) (Some left') 0 frame to_end going.read going.none gave in (n.0, taken.whole.ends ∙ sym n.1)
 
-    pub tasks_next : AreTasks identity input steps.waiting
-    tasks_next = tasks_here identity is input output all taken going.so_far ahead.0 gave.whole ahead.1 steps sectors going.reached
+    pub tasks_next : AreTasks identity input followed.waiting
+    tasks_next = tasks_here identity is input output all taken going.so_far ahead.0 gave.whole ahead.1 followed sectors going.reached
 
     pub known_next : is_known_frame identity.trim frame ≡ true
-    known_next = ap (λ (f : Frame). is_known_frame identity.trim f) gave.cut ∙ known_here identity is input output all taken going.so_far ahead.0 gave.whole ahead.1 steps sectors going.reached
+    known_next = ap (λ (f : Frame). is_known_frame identity.trim f) gave.cut ∙ known_here identity is input output all taken going.so_far ahead.0 gave.whole ahead.1 followed sectors going.reached
 
     place : (at : ℕ) → at ≡ max (length input - length left) 8 → at ≡ place_behind going.so_far
     place at same = same ∙ next_place reader input left going.so_far going.read
 
     pub good_next : (at : ℕ) → at ≡ max (length input - length left) 8 → IsGoodFrame (length input) (at + 35) frame
-    good_next at same = subst (IsGoodFrame (length input) (at + 35)) (sym gave.cut) (good_here identity is input output all taken going.so_far ahead.0 gave.whole ahead.1 steps sectors going.reached at (place at same))
+    good_next at same = subst (IsGoodFrame (length input) (at + 35)) (sym gave.cut) (good_here identity is input output all taken going.so_far ahead.0 gave.whole ahead.1 followed sectors going.reached at (place at same))
 
-    pub may_next : (at : ℕ) → at ≡ max (length input - length left) 8 → MayHappen input (at + 35) steps.waiting gave.whole
-    may_next at same = may_here identity is input output all taken going.so_far ahead.0 gave.whole ahead.1 steps sectors going.reached at (place at same)
+    pub may_next : (at : ℕ) → at ≡ max (length input - length left) 8 → MayHappen input (at + 35) followed.waiting gave.whole
+    may_next at same = may_here identity is input output all taken going.so_far ahead.0 gave.whole ahead.1 followed sectors going.reached at (place at same)
 
     -- it cannot happen
-    pub says_no : CannotGoOn (recorded identity input) gave.whole (progress steps sectors) → Judged identity input output (Ok says.No)
-    says_no cannot = (all, taken, stuck_here identity is input output all taken going.so_far ahead.0 gave.whole ahead.1 steps sectors going.reached cannot)
+    pub says_no : CannotGoOn (recorded identity input) gave.whole (progress followed sectors) → Judged identity input output (Ok says.No)
+    says_no cannot = (all, taken, stuck_here identity is input output all taken going.so_far ahead.0 gave.whole ahead.1 followed sectors going.reached cannot)
 
-    module _ (next : Steps) (after : List Keeping) (goes : GoesOn (recorded identity input) gave.whole (progress steps sectors) (progress next after)) (fit : AllFit identity.capacity (length input) next.waiting) where
+    module _ (next : Followed) (after : List Keeping) (goes : GoesOn (recorded identity input) gave.whole (progress followed sectors) (progress next after)) (fit : AllFit identity.capacity (length input) next.waiting) where
       more : Reached identity input output (going.so_far ++ gave.whole ∷ []) next after
-      more = reached_more identity is input output all taken going.so_far ahead.0 gave.whole ahead.1 steps sectors going.reached next after goes fit
+      more = reached_more identity is input output all taken going.so_far ahead.0 gave.whole ahead.1 followed sectors going.reached next after goes fit
 
       pub goes_on : (frame ≡ frames.End → ⊥) → Goes identity input output new left' next after
       goes_on not_end = record {
@@ -113,13 +113,13 @@ module _ (identity : Identity) (is : IsIdentity identity) (input output : List �
       says_no_more is_end some = (all, taken, more_here identity is input output all taken next after (reached_all is_end) some)
 
     -- what is found of it
-    module _ (at : ℕ) (place_is : at ≡ max (length input - length left) 8) (next : Steps) (after : List Keeping) (b : Bool)
-        (advances : (whole : Frame) → frame ≡ cut_to 0 whole → MayHappen input (at + 35) steps.waiting whole → Advances (recorded identity input) whole (progress steps sectors) (progress next after) b) where
-      here : Advances (recorded identity input) gave.whole (progress steps sectors) (progress next after) b
+    module _ (at : ℕ) (place_is : at ≡ max (length input - length left) 8) (next : Followed) (after : List Keeping) (b : Bool)
+        (advances : (whole : Frame) → frame ≡ cut_to 0 whole → MayHappen input (at + 35) followed.waiting whole → Advances (recorded identity input) whole (progress followed sectors) (progress next after) b) where
+      here : Advances (recorded identity input) gave.whole (progress followed sectors) (progress next after) b
       here = advances gave.whole gave.cut (may_next at place_is)
 
       pub stops : b ≡ false → Judged identity input output (Ok says.No)
-      stops e = says_no (subst (Advances (recorded identity input) gave.whole (progress steps sectors) (progress next after)) e here)
+      stops e = says_no (subst (Advances (recorded identity input) gave.whole (progress followed sectors) (progress next after)) e here)
 
-      pub goes : b ≡ true → GoesOn (recorded identity input) gave.whole (progress steps sectors) (progress next after)
-      goes e = subst (Advances (recorded identity input) gave.whole (progress steps sectors) (progress next after)) e here
+      pub goes : b ≡ true → GoesOn (recorded identity input) gave.whole (progress followed sectors) (progress next after)
+      goes e = subst (Advances (recorded identity input) gave.whole (progress followed sectors) (progress next after)) e here

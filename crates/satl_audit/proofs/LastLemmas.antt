@@ -19,7 +19,7 @@ use Rattle.satl_audit.specs.Finishing.{AreTasks, CannotTurn, TurnsOn}
 use Rattle.satl_audit.specs.Kept.{Keeping}
 use Rattle.satl_audit.specs.Skeleton.{TaskDone, TurnsDone}
 use Rattle.satl_audit.specs.Waiting.{task_in}
-use Rattle.satl_audit.specs.declared.arriving.Steps.{Steps}
+use Rattle.satl_audit.specs.declared.arriving.Followed.{Followed}
 use Rattle.satl_audit.specs.Progress.{recorded, progress}
 use Rattle.satl_audit.proofs.FixingEvents.{ended_push}
 use Rattle.satl_audit.proofs.FixingTurns.{drains_same, none_ends, said}
@@ -69,11 +69,11 @@ all_done s {u = u} same t = ⊎_elim (λ h. no_task u.tasks (omega (arith, h, sa
 
 -- ---- END
 
-module _ (identity : Identity) (input : List ℕ) (old mid : Steps) (sectors after : List Keeping) (count : ℕ) (all : count ≡ length old.waiting) where
+module _ (identity : Identity) (input : List ℕ) (old mid : Followed) (sectors after : List Keeping) (count : ℕ) (all : count ≡ length old.waiting) where
   as_many : count ≡ length (device_at identity input old).tasks
   as_many = all ∙ sym (length-map old.waiting (task_in input))
 
-  pub end_goes : (new : Steps) → device_at identity input new ≡ device_at identity input mid → TurnsOn (recorded identity input) count (progress old sectors) (progress mid after) → mid.output ≡ end_bytes ++ new.output → GoesOn (recorded identity input) frames.End (progress old sectors) (progress new after)
+  pub end_goes : (new : Followed) → device_at identity input new ≡ device_at identity input mid → TurnsOn (recorded identity input) count (progress old sectors) (progress mid after) → mid.output ≡ end_bytes ++ new.output → GoesOn (recorded identity input) frames.End (progress old sectors) (progress new after)
   end_goes new same t passed = record {
     answers = map replied t.replies ++ closed ∷ [];
     deeds = t.deeds;
@@ -96,7 +96,7 @@ module _ (identity : Identity) (input : List ℕ) (old mid : Steps) (sectors aft
       absurd (other left same.rest_same)
 
 -- the output ends, or it does not
-pub end_passes : (identity : Identity) (input : List ℕ) (old mid new : Steps) (sectors after : List Keeping) (count : ℕ) → count ≡ length old.waiting → AreTasks identity input old.waiting → TurnsOn (recorded identity input) count (progress old sectors) (progress mid after) → device_at identity input new ≡ device_at identity input mid →
+pub end_passes : (identity : Identity) (input : List ℕ) (old mid new : Followed) (sectors after : List Keeping) (count : ℕ) → count ≡ length old.waiting → AreTasks identity input old.waiting → TurnsOn (recorded identity input) count (progress old sectors) (progress mid after) → device_at identity input new ≡ device_at identity input mid →
     (passed : Bool) → (passed ≡ true → mid.output ≡ end_bytes ++ new.output) → (passed ≡ false → (rest : List ℕ) → mid.output ≡ end_bytes ++ rest → ⊥) → Advances (recorded identity input) frames.End (progress old sectors) (progress new after) passed
 end_passes identity input old mid new sectors after count all tasks t same true passes lacks = end_goes identity input old mid sectors after count all new same t (passes refl)
 end_passes identity input old mid new sectors after count all tasks t same false passes lacks = end_lacks identity input old mid sectors after count all tasks t (lacks refl)

@@ -19,7 +19,7 @@ use Rattle.satl_audit.specs.Kept.{Keeping}
 use Rattle.satl_audit.specs.Powering.{power_deeds}
 use Rattle.satl_audit.specs.Skeleton.{pairs_of_tasks, pairs_shown, after_power_cycle}
 use Rattle.satl_audit.specs.Waiting.{Placed, device_tasks}
-use Rattle.satl_audit.specs.declared.arriving.Steps.{Steps}
+use Rattle.satl_audit.specs.declared.arriving.Followed.{Followed}
 use Rattle.satl_audit.specs.Progress.{recorded, progress}
 
 -- what tasks write does not depend on what nexuses are to be told
@@ -53,7 +53,7 @@ pairs_same identity before after input waiting (t ∷ ts) =
 pub shown_same : (identity : Identity) (before after : List (List Attention)) (input : List ℕ) (waiting : List Placed) → pairs_shown (device_without_sectors identity input waiting before) ≡ pairs_shown (device_without_sectors identity input waiting after)
 shown_same identity before after input waiting = pairs_same identity before after input waiting (eligibles (device_tasks input waiting))
 
-pub power_goes : (identity : Identity) (input : List ℕ) (old new : Steps) (sectors after : List Keeping) → new.waiting ≡ [] → new.attentions ≡ map (λ (conditions : List Attention). PowerOn ∷ []) old.attentions → new.output ≡ old.output →
+pub power_goes : (identity : Identity) (input : List ℕ) (old new : Followed) (sectors after : List Keeping) → new.waiting ≡ [] → new.attentions ≡ map (λ (conditions : List Attention). PowerOn ∷ []) old.attentions → new.output ≡ old.output →
     Follows input (power_deeds (device_without_sectors identity input old.waiting [])) sectors after → GoesOn (recorded identity input) (frames.Bench events.Power) (progress old sectors) (progress new after)
 power_goes identity input old new sectors after none told output follows = record {
   answers = [];

@@ -20,22 +20,22 @@ use Rattle.satl_audit.specs.Kept.{Keeping, blank_keeping}
 use Rattle.satl_audit.specs.Skeleton.{Skeleton, bare}
 use Rattle.satl_audit.specs.Skeleton.Skeleton.{begin}
 use Rattle.satl_audit.specs.Waiting.{AllFit, device_tasks}
-use Rattle.satl_audit.specs.declared.arriving.Steps.{Steps}
+use Rattle.satl_audit.specs.declared.arriving.Followed.{Followed}
 use Rattle.satl_audit.proofs.Telling.{IsFine}
 
 -- these frames have happened, with the front of the output, and each sector goes along with them
-pub record Reached (identity : Identity) (input output : List ℕ) (so_far : List Frame) (steps : Steps) (sectors : List Keeping) : Type 0 where
+pub record Reached (identity : Identity) (input output : List ℕ) (so_far : List Frame) (followed : Followed) (sectors : List Keeping) : Type 0 where
   pub answers : List Answer
   pub deeds : List Deed
-  pub skeleton : Skeleton (bare (blank identity)) so_far answers deeds (device_at identity input steps)
+  pub skeleton : Skeleton (bare (blank identity)) so_far answers deeds (device_at identity input followed)
   pub whole : AllWhole deeds
-  pub said : output ≡ out answers ++ steps.output
+  pub said : output ≡ out answers ++ followed.output
   pub follows : Follows input deeds (replicate identity.capacity blank_keeping) sectors
-  pub fit : AllFit identity.capacity (length input) steps.waiting
+  pub fit : AllFit identity.capacity (length input) followed.waiting
 
-pub reached_none : (identity : Identity) (input left : List ℕ) (steps : Steps) (sectors : List Keeping) → steps.waiting ≡ [] → steps.attentions ≡ [] ∷ [] ∷ [] ∷ [] ∷ [] → steps.output ≡ left →
-    sectors ≡ replicate identity.capacity blank_keeping → Reached identity input (out_magic ++ left) [] steps sectors
-reached_none identity input left steps sectors none untold output are = record {
+pub reached_none : (identity : Identity) (input left : List ℕ) (followed : Followed) (sectors : List Keeping) → followed.waiting ≡ [] → followed.attentions ≡ [] ∷ [] ∷ [] ∷ [] ∷ [] → followed.output ≡ left →
+    sectors ≡ replicate identity.capacity blank_keeping → Reached identity input (out_magic ++ left) [] followed sectors
+reached_none identity input left followed sectors none untold output are = record {
   answers = [];
   deeds = [];
   skeleton = subst (Skeleton (bare (blank identity)) [] [] []) (sym same) begin;
@@ -45,9 +45,9 @@ reached_none identity input left steps sectors none untold output are = record {
   fit = subst (AllFit identity.capacity (length input)) (sym none) tt;
 }
   where
-    same : device_at identity input steps ≡ bare (blank identity)
+    same : device_at identity input followed ≡ bare (blank identity)
     same =
-        ap (λ w. record (bare (blank identity)) { tasks = device_tasks input w; attentions = steps.attentions }) none
+        ap (λ w. record (bare (blank identity)) { tasks = device_tasks input w; attentions = followed.attentions }) none
         ∙ ap (λ a. record (bare (blank identity)) { attentions = a }) untold
 
 -- frames before others are taken

@@ -27,7 +27,7 @@ use Rattle.satl_audit.specs.Judged.{IsTaken, blank, blank_cell}
 use Rattle.satl_audit.specs.Kept.{Keeping, blank_keeping}
 use Rattle.satl_audit.specs.Skeleton.Skeleton.{further}
 use Rattle.satl_audit.specs.Waiting.{AllFit, device_tasks}
-use Rattle.satl_audit.specs.declared.arriving.Steps.{Steps}
+use Rattle.satl_audit.specs.declared.arriving.Followed.{Followed}
 use Rattle.satl_audit.specs.Progress.{recorded, progress}
 use Rattle.satl_audit.proofs.JoinedDeeds.{begins_stepped, follows_join}
 use Rattle.satl_audit.proofs.Fixing.{answered_push, steps_fixed}
@@ -41,8 +41,8 @@ use Rattle.satl_audit.proofs.ReachBegins.{Reached, covered_front, tags_of, expec
 use Rattle.std.proofs.lemmas.Bool.{not-true, and_parts}
 use Rattle.satl_line.proofs.SlotsLemmas.{All-append, All-right, All-left}
 
-module _ (identity : Identity) (is : IsIdentity identity) (input output : List ℕ) (all : List Frame) (taken : IsTaken identity input all) (so_far later : List Frame) (event : Frame) (all_are : all ≡ so_far ++ event ∷ later) (steps : Steps) (sectors : List Keeping)
-    (reached : Reached identity input output so_far steps sectors) where
+module _ (identity : Identity) (is : IsIdentity identity) (input output : List ℕ) (all : List Frame) (taken : IsTaken identity input all) (so_far later : List Frame) (event : Frame) (all_are : all ≡ so_far ++ event ∷ later) (followed : Followed) (sectors : List Keeping)
+    (reached : Reached identity input output so_far followed sectors) where
   pub decided : IsInput (blank identity) (so_far ++ event ∷ later)
   decided = subst (IsInput (blank identity)) all_are (taken_is_input identity input all is taken)
 
@@ -70,11 +70,11 @@ module _ (identity : Identity) (is : IsIdentity identity) (input output : List �
   once_before : AskOnce so_far
   once_before nexus tag = once_of identity.trim nexus tag [] so_far (covered_front identity.trim [] so_far (event ∷ later) covered) (omega arith)
 
-  kept : Kept (device_at identity input steps)
-  kept = (steps_fixed reached.skeleton (record { own = own_none; fine = tt }) known_before fine_before reached.whole reached.answers reached.deeds (device_at identity input steps) reached.skeleton reached.whole [] [] refl).kept
+  kept : Kept (device_at identity input followed)
+  kept = (steps_fixed reached.skeleton (record { own = own_none; fine = tt }) known_before fine_before reached.whole reached.answers reached.deeds (device_at identity input followed) reached.skeleton reached.whole [] [] refl).kept
 
-  pub tasks_here : AreTasks identity input steps.waiting
-  tasks_here = record { own = kept.own; tags = tags_of (device_tasks input steps.waiting) kept.fine; expected = expected_of (device_tasks input steps.waiting) kept.fine; fit = reached.fit }
+  pub tasks_here : AreTasks identity input followed.waiting
+  tasks_here = record { own = kept.own; tags = tags_of (device_tasks input followed.waiting) kept.fine; expected = expected_of (device_tasks input followed.waiting) kept.fine; fit = reached.fit }
 
   behind : drop (place_behind so_far) input ≡ all_spelled (event ∷ later)
   behind = frames_behind input so_far (event ∷ later) ((taken.whole.reads).split ∙ ap (λ (l : List Frame). magic One ++ (all_spelled l ++ [])) all_are)
@@ -101,10 +101,10 @@ module _ (identity : Identity) (is : IsIdentity identity) (input output : List �
       by (frames.Bench event) e = tt
       by frames.End e = tt
 
-  pub may_here : (at : ℕ) → at ≡ place_behind so_far → MayHappen input (at + 35) steps.waiting event
+  pub may_here : (at : ℕ) → at ≡ place_behind so_far → MayHappen input (at + 35) followed.waiting event
   may_here at same = by event refl
     where
-      by : (f : Frame) → event ≡ f → MayHappen input (at + 35) steps.waiting f
+      by : (f : Frame) → event ≡ f → MayHappen input (at + 35) followed.waiting f
       by (frames.Request r) e =
           let good : IsFrame One (frames.Request r) = subst (IsFrame One) e good_frame in
           let here : is_known_frame identity.trim (frames.Request r) ≡ true = subst (λ (f : Frame). is_known_frame identity.trim f ≡ true) e known in
@@ -119,18 +119,18 @@ module _ (identity : Identity) (is : IsIdentity identity) (input output : List �
       by (frames.Bench event) e = tt
       by frames.End e = tt
 
-  pub reached_more : (new : Steps) (after : List Keeping) → GoesOn (recorded identity input) event (progress steps sectors) (progress new after) → AllFit identity.capacity (length input) new.waiting → Reached identity input output (so_far ++ event ∷ []) new after
+  pub reached_more : (new : Followed) (after : List Keeping) → GoesOn (recorded identity input) event (progress followed sectors) (progress new after) → AllFit identity.capacity (length input) new.waiting → Reached identity input output (so_far ++ event ∷ []) new after
   reached_more new after g fit = record {
     answers = reached.answers ++ g.answers;
     deeds = reached.deeds ++ g.deeds;
     skeleton = further event g.answers g.deeds reached.skeleton g.stepped;
     whole = All-append GivesWhole reached.deeds g.deeds reached.whole g.whole;
     said = reached.said ∙ said;
-    follows = follows_join input reached.deeds g.deeds (replicate identity.capacity blank_keeping) sectors after (begins_stepped event (device_at identity input steps) (device_at identity input new) g.answers g.deeds g.stepped) reached.follows g.follows;
+    follows = follows_join input reached.deeds g.deeds (replicate identity.capacity blank_keeping) sectors after (begins_stepped event (device_at identity input followed) (device_at identity input new) g.answers g.deeds g.stepped) reached.follows g.follows;
     fit = fit;
   }
     where
-      said : out reached.answers ++ steps.output ≡ out (reached.answers ++ g.answers) ++ new.output
+      said : out reached.answers ++ followed.output ≡ out (reached.answers ++ g.answers) ++ new.output
       said =
           ap (λ (l : List ℕ). out reached.answers ++ l) g.said
           ∙ append_assoc out_magic (all_answered reached.answers) (all_answered g.answers ++ new.output)

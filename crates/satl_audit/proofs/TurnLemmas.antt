@@ -19,7 +19,7 @@ use Rattle.satl_audit.specs.Following.{SomeRefuses}
 use Rattle.satl_audit.specs.Kept.{Keeping}
 use Rattle.satl_audit.specs.Skeleton.{TaskDone, TurnsDone, pairs_shown}
 use Rattle.satl_audit.specs.Waiting.{Fits, Placed, device_tasks}
-use Rattle.satl_audit.specs.declared.arriving.Steps.{Steps}
+use Rattle.satl_audit.specs.declared.arriving.Followed.{Followed}
 use Rattle.satl_audit.specs.Progress.{recorded, progress}
 use Rattle.satl_audit.proofs.AlongLemmas.{follows_push, refuses_more, refuses_push}
 use Rattle.satl_audit.proofs.FixingTurns.{Kept, idles, said, said-push, turns_same}
@@ -50,7 +50,7 @@ tasks_left identity input ps place p tasks at =
 
 -- ---- one turn more
 
-module _ (identity : Identity) (input : List ℕ) (old mid new : Steps) (before between after : List Keeping) where
+module _ (identity : Identity) (input : List ℕ) (old mid new : Followed) (before between after : List Keeping) where
   pub one_more : (i : ℕ) → TurnsOn (recorded identity input) i (progress old before) (progress mid between) → EndsOn (recorded identity input) (progress mid between) (progress new after) → TurnsOn (recorded identity input) (i + 1) (progress old before) (progress new after)
   one_more i t e =
       let next : suc i ≡ i + 1 = omega arith in
@@ -65,7 +65,7 @@ module _ (identity : Identity) (input : List ℕ) (old mid new : Steps) (before 
       }
 
 -- where no task is left more turns do nothing
-pub idle_turns : (identity : Identity) (input : List ℕ) (old new : Steps) (before after : List Keeping) (i count : ℕ) → i ≤ count → new.waiting ≡ [] → TurnsOn (recorded identity input) i (progress old before) (progress new after) → TurnsOn (recorded identity input) count (progress old before) (progress new after)
+pub idle_turns : (identity : Identity) (input : List ℕ) (old new : Followed) (before after : List Keeping) (i count : ℕ) → i ≤ count → new.waiting ≡ [] → TurnsOn (recorded identity input) i (progress old before) (progress new after) → TurnsOn (recorded identity input) count (progress old before) (progress new after)
 idle_turns identity input old new before after i count le none t =
     let all : (count - i) + i ≡ count = omega (arith, le) in
     record {
@@ -81,15 +81,15 @@ all_zipped : (ts : List Entry) → AllByRecursion (λ (t : Entry). (t.tag).0 < 2
 all_zipped [] p q = tt
 all_zipped (t ∷ ts) p q = ((p.0, q.0), all_zipped ts p.1 q.1)
 
-pub kept_of : (identity : Identity) (input : List ℕ) (steps : Steps) → AreTasks identity input steps.waiting → Kept (device_at identity input steps)
-kept_of identity input steps tasks = record { own = tasks.own; fine = all_zipped (device_tasks input steps.waiting) tasks.tags tasks.expected }
+pub kept_of : (identity : Identity) (input : List ℕ) (followed : Followed) → AreTasks identity input followed.waiting → Kept (device_at identity input followed)
+kept_of identity input followed tasks = record { own = tasks.own; fine = all_zipped (device_tasks input followed.waiting) tasks.tags tasks.expected }
 
 some_tasks : (input : List ℕ) (ps : List Placed) → device_tasks input ps ≡ [] → ps ≡ []
 some_tasks input [] h = refl
 some_tasks input (p ∷ ps) h = absurd cc
 
 -- where no turn can follow, no more turns can be done
-module _ (identity : Identity) (input : List ℕ) (old mid : Steps) (before between : List Keeping) (i : ℕ) (tasks : AreTasks identity input old.waiting) (t : TurnsOn (recorded identity input) i (progress old before) (progress mid between)) (cannot : CannotEnd (recorded identity input) (progress mid between)) where
+module _ (identity : Identity) (input : List ℕ) (old mid : Followed) (before between : List Keeping) (i : ℕ) (tasks : AreTasks identity input old.waiting) (t : TurnsOn (recorded identity input) i (progress old before) (progress mid between)) (cannot : CannotEnd (recorded identity input) (progress mid between)) where
   by_last : {replies : List Reply} {deeds : List Deed} {u : Device} → TurnsDone (device_at identity input old) (suc i) replies deeds u → (mid.waiting ≡ [] → ⊥) → (others : List Reply) (late : List Deed) (left : List ℕ) → AllWhole deeds → old.output ≡ said replies ++ (said others ++ left) → SomeRefuses input (deeds ++ late) before
   by_last {replies = replies} {deeds = deeds} (TurnsDone.idle t' e) some others late left whole h =
       let same = turns_same (device_at identity input old) (kept_of identity input old tasks) t.done t' mid.output (said others ++ left) t.whole whole (sym t.said ∙ h) in
@@ -111,8 +111,8 @@ module _ (identity : Identity) (input : List ℕ) (old mid : Steps) (before betw
       subst (λ l. SomeRefuses input l before) (sym f.deeds_are)
       (by_last f.done some f.others f.late left w (h ∙ ap (λ l. said l ++ left) f.replies_are ∙ said-append f.some f.others left))
 
-pub no_turns : (identity : Identity) (input : List ℕ) (steps : Steps) (sectors : List Keeping) → TurnsOn (recorded identity input) 0 (progress steps sectors) (progress steps sectors)
-no_turns identity input steps sectors = record { replies = []; deeds = []; done = TurnsDone.none; whole = tt; said = refl; follows = (refl, λ x less. refl) }
+pub no_turns : (identity : Identity) (input : List ℕ) (followed : Followed) (sectors : List Keeping) → TurnsOn (recorded identity input) 0 (progress followed sectors) (progress followed sectors)
+no_turns identity input followed sectors = record { replies = []; deeds = []; done = TurnsDone.none; whole = tt; said = refl; follows = (refl, λ x less. refl) }
 
 pub none_waits : (ps : List Placed) → (length ps == 0) ≡ true → ps ≡ []
 none_waits [] h = refl

@@ -20,7 +20,7 @@ use Rattle.satl_audit.specs.Judged.{IsTaken, blank, blank_cell}
 use Rattle.satl_audit.specs.Kept.{Keeping, blank_keeping, known_sector, known_sector_at}
 use Rattle.satl_audit.specs.Sectors.{KnownSector, sector_gives, sector_power, sector_puts, sectored, settled_in}
 use Rattle.satl_audit.specs.Skeleton.{IsExplained}
-use Rattle.satl_audit.specs.declared.arriving.Steps.{Steps}
+use Rattle.satl_audit.specs.declared.arriving.Followed.{Followed}
 use Rattle.satl_audit.specs.Progress.{recorded, progress}
 use Rattle.satl_audit.proofs.JoinedDeeds.{begins_stepped, refuses_join}
 use Rattle.satl_audit.proofs.AlongLemmas.{refuses_more}
@@ -87,16 +87,16 @@ module _ (input : List ℕ) (n : ℕ) (ds : List Deed) where
 
 module _ (identity : Identity) (is : IsIdentity identity) (input output : List ℕ) (all : List Frame) (taken : IsTaken identity input all) where
   -- nothing goes on from here
-  pub stuck_here : (so_far later : List Frame) (event : Frame) → all ≡ so_far ++ event ∷ later → (steps : Steps) (sectors : List Keeping) → Reached identity input output so_far steps sectors → CannotGoOn (recorded identity input) event (progress steps sectors) →
+  pub stuck_here : (so_far later : List Frame) (event : Frame) → all ≡ so_far ++ event ∷ later → (followed : Followed) (sectors : List Keeping) → Reached identity input output so_far followed sectors → CannotGoOn (recorded identity input) event (progress followed sectors) →
       IsExplained (blank identity) all output → ⊥
-  stuck_here so_far later event all_are steps sectors reached cannot explained =
-      let h : IsInput (blank identity) (so_far ++ event ∷ later) = decided identity is input output all taken so_far later event all_are steps sectors reached in
+  stuck_here so_far later event all_are followed sectors reached cannot explained =
+      let h : IsInput (blank identity) (so_far ++ event ∷ later) = decided identity is input output all taken so_far later event all_are followed sectors reached in
       let e : IsExplained (blank identity) (so_far ++ event ∷ later) output = subst (λ (l : List Frame). IsExplained (blank identity) l output) all_are explained in
       let others = explained_has_steps (blank identity) (so_far ++ event ∷ later) output h e in
-      let on = goes_onward (blank identity) so_far later event output steps.output reached.answers reached.deeds (device_at identity input steps) h reached.skeleton reached.whole reached.said others.0 others.1 in
+      let on = goes_onward (blank identity) so_far later event output followed.output reached.answers reached.deeds (device_at identity input followed) h reached.skeleton reached.whole reached.said others.0 others.1 in
       let next = on.next in
       let here = cannot next.now next.more next.new next.rest next.stepped next.whole next.left_is in
-      let from_start = refuses_join input reached.deeds next.more (replicate identity.capacity blank_keeping) sectors (begins_stepped event (device_at identity input steps) next.new next.now next.more next.stepped) reached.follows here in
+      let from_start = refuses_join input reached.deeds next.more (replicate identity.capacity blank_keeping) sectors (begins_stepped event (device_at identity input followed) next.new next.now next.more next.stepped) reached.follows here in
       let whole = refuses_more input (reached.deeds ++ next.more) on.later (replicate identity.capacity blank_keeping) from_start in
       one_refuses input identity.capacity others.0 (subst (λ (l : List Deed). SomeRefuses input l (replicate identity.capacity blank_keeping)) (sym on.deeds_are) whole)
       (explained_is_sectored (blank identity) (so_far ++ event ∷ later) output others.0 h others.1 e)
@@ -105,22 +105,22 @@ module _ (identity : Identity) (is : IsIdentity identity) (input output : List �
   decided_all = taken_is_input identity input all is taken
 
   -- all has happened, and the output is at its end
-  pub explained_here : (steps : Steps) (sectors : List Keeping) → Reached identity input output all steps sectors → steps.output ≡ [] → IsExplained (blank identity) all output
-  explained_here steps sectors reached none =
+  pub explained_here : (followed : Followed) (sectors : List Keeping) → Reached identity input output all followed sectors → followed.output ≡ [] → IsExplained (blank identity) all output
+  explained_here followed sectors reached none =
       sectored_is_explained (blank identity) all output reached.deeds decided_all
-      (record { answers = reached.answers; last = device_at identity input steps; skeleton = reached.skeleton; whole = reached.whole; same = reached.said ∙ ap (λ (l : List ℕ). out reached.answers ++ l) none ∙ append-nil (out reached.answers) })
+      (record { answers = reached.answers; last = device_at identity input followed; skeleton = reached.skeleton; whole = reached.whole; same = reached.said ∙ ap (λ (l : List ℕ). out reached.answers ++ l) none ∙ append-nil (out reached.answers) })
       (each_follows input identity.capacity reached.deeds sectors reached.follows)
 
   -- all has happened, and bytes are left
-  pub more_here : (steps : Steps) (sectors : List Keeping) → Reached identity input output all steps sectors → (steps.output ≡ [] → ⊥) → IsExplained (blank identity) all output → ⊥
-  more_here steps sectors reached some explained =
+  pub more_here : (followed : Followed) (sectors : List Keeping) → Reached identity input output all followed sectors → (followed.output ≡ [] → ⊥) → IsExplained (blank identity) all output → ⊥
+  more_here followed sectors reached some explained =
       let h = decided_all in
       let others = explained_has_steps (blank identity) all output h explained in
       let t = others.1 in
-      let bytes : all_answered reached.answers ++ steps.output ≡ all_answered t.answers ++ [] =
-      after_same out_magic out_magic (all_answered reached.answers ++ steps.output) (all_answered t.answers) refl (sym (append_assoc out_magic (all_answered reached.answers) steps.output) ∙ sym reached.said ∙ t.same)
+      let bytes : all_answered reached.answers ++ followed.output ≡ all_answered t.answers ++ [] =
+      after_same out_magic out_magic (all_answered reached.answers ++ followed.output) (all_answered t.answers) refl (sym (append_assoc out_magic (all_answered reached.answers) followed.output) ∙ sym reached.said ∙ t.same)
       ∙ sym (append-nil (all_answered t.answers)) in
-      some (((steps_fixed reached.skeleton (record { own = own_none; fine = tt }) ((h.audited).known) h.fine reached.whole t.answers others.0 t.last t.skeleton t.whole steps.output [] bytes).same).rest_same)
+      some (((steps_fixed reached.skeleton (record { own = own_none; fine = tt }) ((h.audited).known) h.fine reached.whole t.answers others.0 t.last t.skeleton t.whole followed.output [] bytes).same).rest_same)
 
   -- the output does not begin as all do
   pub no_magic : ((rest : List ℕ) → output ≡ out_magic ++ rest → ⊥) → IsExplained (blank identity) all output → ⊥

@@ -19,14 +19,14 @@ pub record GoesOn (r : Recorded) (event : Frame) (old new : Progress) : Type 0 w
   pub deeds : List Deed
   pub stepped : Stepped event (device_in r old) answers deeds (device_in r new)
   pub whole : AllWhole deeds
-  pub said : old.steps.output ≡ all_answered answers ++ new.steps.output
+  pub said : old.followed.output ≡ all_answered answers ++ new.followed.output
   pub follows : Follows r.input deeds old.sectors new.sectors
 
 -- it cannot happen so: in each way that has the answers that come first in the output, some sector does not go along with it
 -- (SAM-5 5, 8; profile)
 abbrev pub CannotGoOn : Recorded → Frame → Progress → Type 0
 CannotGoOn r event old = (answers : List Answer) (deeds : List Deed) (new : Device) (left : List ℕ) →
-    Stepped event (device_in r old) answers deeds new → AllWhole deeds → old.steps.output ≡ all_answered answers ++ left →
+    Stepped event (device_in r old) answers deeds new → AllWhole deeds → old.followed.output ≡ all_answered answers ++ left →
     SomeRefuses r.input deeds old.sectors
 
 -- it happens so, or it cannot (SAM-5 5, 8; profile)

@@ -16,7 +16,7 @@ use Rattle.satl_direct.specs.Arrival.{Arrival, Arrives, arrival, becomes, check,
 use Rattle.satl_direct.specs.Arrival.Arrival.{answered}
 use Rattle.satl_audit.specs.Following.{input_blocks}
 use Rattle.satl_audit.specs.Waiting.{Placed, device_tasks}
-use Rattle.satl_audit.specs.declared.arriving.Steps.{Steps}
+use Rattle.satl_audit.specs.declared.arriving.Followed.{Followed}
 use Rattle.satl_audit.specs.declared.judging.AtOnce.{AtOnce}
 use Rattle.satl_audit.specs.declared.judging.AtOnce.TheVariants as at_once
 
@@ -78,33 +78,33 @@ abbrev pub CannotArrive : Request → Device → List ℕ → Type 0
 CannotArrive r s output = (replies : List Reply) (new : Device) (left : List ℕ) → Arrives r s replies new →
     output ≡ all_answered (map replied replies) ++ left → ⊥
 
--- the device as these steps have left it (profile)
-abbrev pub device_at : Identity → List ℕ → Steps → Device
-device_at identity input steps = device_without_sectors identity input steps.waiting steps.attentions
+-- the device that was followed so far, without its sectors (profile)
+abbrev pub device_at : Identity → List ℕ → Followed → Device
+device_at identity input followed = device_without_sectors identity input followed.waiting followed.attentions
 
 -- the device makes a task of a request with this command, where there is room (SAM-5 5.3.1)
-abbrev pub IsPlacedBy : Identity → List ℕ → Steps → Request → Command → Type 0
-IsPlacedBy identity input steps r command =
-    arrival (device_at identity input steps) r ≡ placed (device_at identity input steps) r command
+abbrev pub IsPlacedBy : Identity → List ℕ → Followed → Request → Command → Type 0
+IsPlacedBy identity input followed r command =
+    arrival (device_at identity input followed) r ≡ placed (device_at identity input followed) r command
 
 -- a request with this command, whose data-out stands at a place of the input, may arrive so; or it may not (SAM-5 5)
-abbrev pub Places : Identity → Request → Command → ℕ → Steps → Steps → Type 0
+abbrev pub Places : Identity → Request → Command → ℕ → Followed → Followed → Type 0
 Places identity head command at old new =
     (input : List ℕ) (body : List Block) → IsSent input at (record head { body = body }) old.waiting →
     IsPlacedBy identity input old (record head { body = body }) command →
     ArrivesOn (record head { body = body }) (device_at identity input old) (device_at identity input new) old.output new.output
 
-abbrev pub CannotPlace : Identity → Request → Command → Steps → Type 0
+abbrev pub CannotPlace : Identity → Request → Command → Followed → Type 0
 CannotPlace identity head command old =
     (input : List ℕ) (body : List Block) → IsPlacedBy identity input old (record head { body = body }) command →
     CannotArrive (record head { body = body }) (device_at identity input old) old.output
 
 -- a request whose data-out stands at a place of the input may arrive so; or it may not (SAM-5 5)
-abbrev pub Goes : Identity → Request → ℕ → Steps → Steps → Type 0
+abbrev pub Goes : Identity → Request → ℕ → Followed → Followed → Type 0
 Goes identity head at old new =
     (input : List ℕ) (body : List Block) → IsSent input at (record head { body = body }) old.waiting →
     ArrivesOn (record head { body = body }) (device_at identity input old) (device_at identity input new) old.output new.output
 
-abbrev pub Sticks : Identity → Request → ℕ → Steps → Type 0
+abbrev pub Sticks : Identity → Request → ℕ → Followed → Type 0
 Sticks identity head at old = (input : List ℕ) (body : List Block) → IsSent input at (record head { body = body }) old.waiting →
     CannotArrive (record head { body = body }) (device_at identity input old) old.output

@@ -23,7 +23,7 @@ use Rattle.satl_audit.specs.Following.{Follows, GivesBlocks, PutsBlocks, SomeRef
 use Rattle.satl_audit.specs.Kept.{kept_settle}
 use Rattle.satl_audit.specs.Progress.{Compared, Progress, Recorded, device_in}
 use Rattle.satl_audit.specs.Skeleton.{TaskDone, TurnsDone, pairs_shown}
-use Rattle.satl_audit.specs.declared.arriving.Steps.{Steps}
+use Rattle.satl_audit.specs.declared.arriving.Followed.{Followed}
 use Rattle.satl_audit.specs.declared.effects.Put.{Put}
 use Rattle.satl_audit.specs.declared.reply.Name.{Name}
 
@@ -69,13 +69,13 @@ pub record EndsOn (r : Recorded) (old new : Progress) : Type 0 where
   pub deed : Deed
   pub done : TaskDone (device_in r old) reply deed (device_in r new)
   pub whole : GivesWhole deed
-  pub said : old.steps.output ≡ reply_bytes reply ++ new.steps.output
+  pub said : old.followed.output ≡ reply_bytes reply ++ new.followed.output
   pub follows : Follows r.input (end_deeds (device_in r old) deed) old.sectors new.sectors
 
 -- no task can end so: of each whose answer comes first in the output some sector does not go along with it (SAM-5 8)
 abbrev pub CannotEnd : Recorded → Progress → Type 0
 CannotEnd r old = (reply : Reply) (deed : Deed) (new : Device) (left : List ℕ) →
-    TaskDone (device_in r old) reply deed new → GivesWhole deed → old.steps.output ≡ reply_bytes reply ++ left →
+    TaskDone (device_in r old) reply deed new → GivesWhole deed → old.followed.output ≡ reply_bytes reply ++ left →
     SomeRefuses r.input (end_deeds (device_in r old) deed) old.sectors
 
 -- a task ends so, or none can (SAM-5 8)
@@ -96,11 +96,11 @@ pub record AreTasks (identity : Identity) (input : List ℕ) (waiting : List Pla
   pub fit : AllFit identity.capacity (length input) waiting
 
 -- a task whose answer comes first in the output is the one at this place (SAM-5 4.7)
-abbrev pub OnlyEnds : Steps → Option ℕ → Type 0
-OnlyEnds steps found = (identity : Identity) (input : List ℕ) (reply : Reply) (deed : Deed) (new : Device) (left : List ℕ) →
-    AreTasks identity input steps.waiting → (done : TaskDone (device_at identity input steps) reply deed new) →
-    steps.output ≡ reply_bytes reply ++ left →
-    (place : ℕ) × (found ≡ Some place) × (slice_get (device_tasks input steps.waiting) place ≡ Some done.task)
+abbrev pub OnlyEnds : Followed → Option ℕ → Type 0
+OnlyEnds followed found = (identity : Identity) (input : List ℕ) (reply : Reply) (deed : Deed) (new : Device) (left : List ℕ) →
+    AreTasks identity input followed.waiting → (done : TaskDone (device_at identity input followed) reply deed new) →
+    followed.output ≡ reply_bytes reply ++ left →
+    (place : ℕ) × (found ≡ Some place) × (slice_get (device_tasks input followed.waiting) place ≡ Some done.task)
 
 -- so many turns are done, with the answers that come first in the output, and each sector goes along with them (SAM-5 8;
 -- profile)
@@ -109,7 +109,7 @@ pub record TurnsOn (r : Recorded) (count : ℕ) (old new : Progress) : Type 0 wh
   pub deeds : List Deed
   pub done : TurnsDone (device_in r old) count replies deeds (device_in r new)
   pub whole : AllWhole deeds
-  pub said : old.steps.output ≡ all_answered (map replied replies) ++ new.steps.output
+  pub said : old.followed.output ≡ all_answered (map replied replies) ++ new.followed.output
   pub follows : Follows r.input deeds old.sectors new.sectors
 
 -- no turns can be done so: of all whose answers come first in the output some sector does not go along with them (SAM-5 8;
@@ -117,7 +117,7 @@ pub record TurnsOn (r : Recorded) (count : ℕ) (old new : Progress) : Type 0 wh
 abbrev pub CannotTurn : Recorded → ℕ → Progress → Type 0
 CannotTurn r count old = (replies : List Reply) (deeds : List Deed) (new : Device) (left : List ℕ) →
     TurnsDone (device_in r old) count replies deeds new → AllWhole deeds →
-    old.steps.output ≡ all_answered (map replied replies) ++ left → SomeRefuses r.input deeds old.sectors
+    old.followed.output ≡ all_answered (map replied replies) ++ left → SomeRefuses r.input deeds old.sectors
 
 -- turns are done so, or none can (SAM-5 8)
 abbrev pub Turns : Recorded → ℕ → Progress → Progress → Bool → Type 0

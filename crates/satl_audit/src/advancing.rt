@@ -10,7 +10,7 @@ ghost use Rattle.satl_audit.specs.Finishing.{AreTasks};
 ghost use Rattle.satl_audit.specs.Waiting.{AllFit};
 ghost use Rattle.satl_audit.specs.Progress.{progress, recorded};
 
-use crate::arriving::{Steps, arrive};
+use crate::arriving::{Followed, arrive};
 use crate::finishing::turn;
 use crate::powering::power;
 use crate::sectors::Sectors;
@@ -24,46 +24,46 @@ const END: [u8; HEAD_SIZE] = [OUT_END_KIND, 0, 0, 0, 0];
 /// END comes: whether each task that waits can end with the answers that come next in the output, each sector goes along with
 /// it, and then the output ends (SAM-5 8; profile).
 fn end(
-    steps: &mut Steps<'_>,
+    followed: &mut Followed<'_>,
     sectors: &mut Sectors,
     identity: &Identity,
     input: &[u8],
 ) -> Result<bool, NoMemory>
-    requires tasks { AreTasks identity.now input.now steps.old.waiting }
+    requires tasks { AreTasks identity.now input.now followed.old.waiting }
     requires sectors { length sectors.old ≡ identity.now.capacity }
     requires small { length input.now < 2 ^ 63 }
     requires capacity { identity.now.capacity < 2 ^ 64 }
-    ensures tasks { AreTasks identity.now input.now steps.new.waiting }
+    ensures tasks { AreTasks identity.now input.now followed.new.waiting }
     ensures length { OnOk result (length sectors.new ≡ length sectors.old) }
     ensures advances { IfOk result (Advances (recorded identity.now input.now) frames.End
-        (progress steps.old sectors.old) (progress steps.new sectors.new)) }
+        (progress followed.old sectors.old) (progress followed.new sectors.new)) }
 {
-    let count = steps.waiting.len() as u16;
-    if !turn(steps, sectors, identity, input, count)? {
+    let count = followed.waiting.len() as u16;
+    if !turn(followed, sectors, identity, input, count)? {
         return Ok(false);
     }
-    Ok(steps.output.pass(&END))
+    Ok(followed.output.pass(&END))
 }
 
 /// An event of the bench happens: the power is lost, or the drive is told an order, which changes nothing. No run that can be
 /// audited has another (profile).
 fn bench(
-    steps: &mut Steps<'_>,
+    followed: &mut Followed<'_>,
     sectors: &mut Sectors,
     event: &BenchEvent<'_>,
 ) -> Result<bool, NoMemory>
-    requires fit { (size : ℕ) × (size < 2 ^ 63) × AllFit (length sectors.old) size steps.old.waiting }
+    requires fit { (size : ℕ) × (size < 2 ^ 63) × AllFit (length sectors.old) size followed.old.waiting }
     requires capacity { length sectors.old < 2 ^ 64 }
-    ensures fit { (capacity size : ℕ) → AllFit capacity size steps.old.waiting
-        → OnOk result (AllFit capacity size steps.new.waiting) }
+    ensures fit { (capacity size : ℕ) → AllFit capacity size followed.old.waiting
+        → OnOk result (AllFit capacity size followed.new.waiting) }
     ensures length { OnOk result (length sectors.new ≡ length sectors.old) }
     ensures advances { (identity : Identity) → (input : List ℕ)
         → IfOk result (Advances (recorded identity input) (frames.Bench event.now)
-        (progress steps.old sectors.old) (progress steps.new sectors.new)) }
+        (progress followed.old sectors.old) (progress followed.new sectors.new)) }
 {
     match event {
         BenchEvent::Power => {
-            power(steps, sectors)?;
+            power(followed, sectors)?;
             Ok(true)
         }
         BenchEvent::Order { .. } => Ok(true),
@@ -75,30 +75,30 @@ fn bench(
 /// 8; profile). The data-out of a request stands in the input from a place on. No run that can be audited has a task management
 /// function.
 pub fn advance(
-    steps: &mut Steps<'_>,
+    followed: &mut Followed<'_>,
     sectors: &mut Sectors,
     identity: &Identity,
     input: &[u8],
     frame: &Frame<'_>,
     at: usize,
 ) -> Result<bool, NoMemory>
-    requires tasks { AreTasks identity.now input.now steps.old.waiting }
+    requires tasks { AreTasks identity.now input.now followed.old.waiting }
     requires sectors { length sectors.old ≡ identity.now.capacity }
     requires small { length input.now < 2 ^ 63 }
     requires capacity { identity.now.capacity < 2 ^ 64 }
     requires known { is_known_frame identity.now.trim frame.now ≡ true }
     requires good { IsGoodFrame (length input.now) at frame.now }
-    ensures fit { OnOk result (AllFit identity.now.capacity (length input.now) steps.new.waiting) }
+    ensures fit { OnOk result (AllFit identity.now.capacity (length input.now) followed.new.waiting) }
     ensures length { OnOk result (length sectors.new ≡ length sectors.old) }
-    ensures advances { (whole : Frame) → frame.now ≡ cut_to 0 whole → MayHappen input.now at steps.old.waiting whole
+    ensures advances { (whole : Frame) → frame.now ≡ cut_to 0 whole → MayHappen input.now at followed.old.waiting whole
         → IfOk result (Advances (recorded identity.now input.now) whole
-        (progress steps.old sectors.old) (progress steps.new sectors.new)) }
+        (progress followed.old sectors.old) (progress followed.new sectors.new)) }
 {
     match frame {
-        Frame::Request(request) => Ok(arrive(steps, identity, request, at)),
-        Frame::Turn(count) => turn(steps, sectors, identity, input, *count),
-        Frame::Bench(event) => bench(steps, sectors, event),
+        Frame::Request(request) => Ok(arrive(followed, identity, request, at)),
+        Frame::Turn(count) => turn(followed, sectors, identity, input, *count),
+        Frame::Bench(event) => bench(followed, sectors, event),
         Frame::Manage(_) => Ok(false),
-        Frame::End => end(steps, sectors, identity, input),
+        Frame::End => end(followed, sectors, identity, input),
     }
 }

@@ -20,7 +20,7 @@ use std::alloc::Global;
 
 /// The device of a record but for its sectors, and how far the output is compared.
 #[derive(Drop)]
-pub struct Steps<'a> {
+pub struct Followed<'a> {
     /// The tasks that wait, in order of arrival.
     pub waiting: Waiting,
     /// The unit attentions of each nexus.
@@ -29,15 +29,15 @@ pub struct Steps<'a> {
     pub output: Cursor<'a>,
 }
 
-impl<'a> Steps<'a> {
+impl<'a> Followed<'a> {
     /// Nothing has happened: no task waits, no nexus is to be told anything, and nothing of the output was compared.
-    pub fn new(alloc: Global, output: &'a [u8]) -> Result<Steps<'a>, NoMemory>
-        ensures waiting { IfOk result (λ steps. steps.waiting ≡ []) }
-        ensures attentions { IfOk result (λ steps. steps.attentions ≡ replicate 4 []) }
-        ensures output { IfOk result (λ steps. steps.output ≡ output.now) }
+    pub fn new(alloc: Global, output: &'a [u8]) -> Result<Followed<'a>, NoMemory>
+        ensures waiting { IfOk result (λ followed. followed.waiting ≡ []) }
+        ensures attentions { IfOk result (λ followed. followed.attentions ≡ replicate 4 []) }
+        ensures output { IfOk result (λ followed. followed.output ≡ output.now) }
     {
         let waiting = Waiting::new(alloc)?;
-        Ok(Steps {
+        Ok(Followed {
             waiting,
             attentions: no_attentions(),
             output: Cursor::new(output),
@@ -59,7 +59,7 @@ fn next_attention(attentions: &mut [Attentions; NEXUSES], request: &Request) -> 
 /// A request with this command arrives, and makes a task where there is room. Its data-out stands in the input from a place on.
 /// Whether its answer, where it has one, comes next in the output.
 fn place(
-    steps: &mut Steps<'_>,
+    followed: &mut Followed<'_>,
     identity: &Identity,
     request: &Request,
     command: Command,
@@ -68,35 +68,40 @@ fn place(
     requires waits { MayWait identity.now.capacity request.now.data_len command }
     requires expected { request.now.expected ≡ None }
     requires nexus { request.now.nexus ≤ 3 }
-    ensures fits { (size : ℕ) → at + request.now.data_len ≤ size → AllFit identity.now.capacity size steps.old.waiting
-        → AllFit identity.now.capacity size steps.new.waiting }
-    ensures goes { result ≡ true → Places identity.now request.now command at steps.old steps.new }
-    ensures sticks { result ≡ false → CannotPlace identity.now request.now command steps.old }
+    ensures fits { (size : ℕ) → at + request.now.data_len ≤ size → AllFit identity.now.capacity size followed.old.waiting
+        → AllFit identity.now.capacity size followed.new.waiting }
+    ensures goes { result ≡ true → Places identity.now request.now command at followed.old followed.new }
+    ensures sticks { result ≡ false → CannotPlace identity.now request.now command followed.old }
 {
     let task = task_of(request, command, identity.queued_trim);
-    if steps.waiting.add(task, at) {
+    if followed.waiting.add(task, at) {
         return true;
     }
-    pass_status(&mut steps.output, request, Scsi::TaskSetFull)
+    pass_status(&mut followed.output, request, Scsi::TaskSetFull)
 }
 
 /// A request arrives. Its data-out stands in the input from a place on. Whether its answer, where it has one, comes next in the
 /// output.
-pub fn arrive(steps: &mut Steps<'_>, identity: &Identity, request: &Request, at: usize) -> bool
+pub fn arrive(
+    followed: &mut Followed<'_>,
+    identity: &Identity,
+    request: &Request,
+    at: usize,
+) -> bool
     requires known { is_known (says request.now.cdb identity.now.trim) ≡ true }
     requires expected { request.now.expected ≡ None }
     requires nexus { request.now.nexus ≤ 3 }
-    ensures fits { (size : ℕ) → at + request.now.data_len ≤ size → AllFit identity.now.capacity size steps.old.waiting
-        → AllFit identity.now.capacity size steps.new.waiting }
-    ensures goes { result ≡ true → Goes identity.now request.now at steps.old steps.new }
-    ensures sticks { result ≡ false → Sticks identity.now request.now at steps.old }
+    ensures fits { (size : ℕ) → at + request.now.data_len ≤ size → AllFit identity.now.capacity size followed.old.waiting
+        → AllFit identity.now.capacity size followed.new.waiting }
+    ensures goes { result ≡ true → Goes identity.now request.now at followed.old followed.new }
+    ensures sticks { result ≡ false → Sticks identity.now request.now at followed.old }
 {
-    if let Some(what) = next_attention(&mut steps.attentions, request) {
-        return pass_check(&mut steps.output, request, &attention_sense(what));
+    if let Some(what) = next_attention(&mut followed.attentions, request) {
+        return pass_check(&mut followed.output, request, &attention_sense(what));
     }
     match judge(identity, request) {
-        Ok(command) => place(steps, identity, request, command, at),
-        Err(AtOnce::Good) => pass_status(&mut steps.output, request, Scsi::Good),
-        Err(AtOnce::Check(sense)) => pass_check(&mut steps.output, request, &sense),
+        Ok(command) => place(followed, identity, request, command, at),
+        Err(AtOnce::Good) => pass_status(&mut followed.output, request, Scsi::Good),
+        Err(AtOnce::Check(sense)) => pass_check(&mut followed.output, request, &sense),
     }
 }

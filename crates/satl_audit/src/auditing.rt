@@ -6,7 +6,7 @@ ghost use Rattle.satl_frame.specs.Output.{out_magic};
 ghost use Rattle.satl_audit.specs.Judged.{IsTaken, Judged};
 
 use crate::advancing::advance;
-use crate::arriving::Steps;
+use crate::arriving::Followed;
 use crate::cursor::Cursor;
 use crate::sectors::Sectors;
 use crate::verdict::Verdict;
@@ -33,13 +33,14 @@ fn follow(
     requires taken { (all : List Frame) × IsTaken identity.now input.now all }
     ensures { IfOk result (λ verdict. Judged identity.now input.now (out_magic ++ output.now) (Ok verdict)) }
 {
-    let mut steps = Steps::new(alloc, output)?;
+    let mut followed = Followed::new(alloc, output)?;
     let mut sectors = Sectors::new(alloc, identity.capacity as usize)?;
     let mut source = Slice::new(input);
     let mut reader = FrameReader::new(alloc, INPUT_LIMIT);
     let mut lender = NoPages;
     let mut room = [0; LONGEST_EVENT];
     loop {
+        // Before the first frame the magic is not read yet.
         let at = (input.len() - source.left()).max(MAGIC_SIZE);
         let frame = match reader.next(&mut source, &mut lender, &mut room) {
             Ok(frame) => frame,
@@ -47,7 +48,7 @@ fn follow(
             Err(FrameFault::ReadFault) => unreachable!(),
         };
         if !advance(
-            &mut steps,
+            &mut followed,
             &mut sectors,
             identity,
             input,
@@ -57,7 +58,7 @@ fn follow(
             return Ok(Verdict::No);
         }
         if let Frame::End = frame {
-            if steps.output.rest().is_empty() {
+            if followed.output.rest().is_empty() {
                 return Ok(Verdict::Yes);
             }
             return Ok(Verdict::No);

@@ -5,7 +5,7 @@ ghost use Rattle.satl_audit.specs.Finishing.{AreTasks, EndsOrCannot, Flushes, Na
 ghost use Rattle.satl_audit.specs.Waiting.{entries_in};
 ghost use Rattle.satl_audit.specs.Progress.{compared, progress, recorded};
 
-use crate::arriving::Steps;
+use crate::arriving::Followed;
 use crate::cursor::Cursor;
 use crate::effects::{Put, put_blocks, show_blocks};
 use crate::reply::{Name, head};
@@ -28,14 +28,14 @@ fn next_name(output: &Cursor<'_>) -> Option<(Nexus, Tag)>
 }
 
 /// The place of the task that the next answer in the output names, where it is eligible.
-fn next_task(steps: &Steps<'_>) -> Option<usize>
-    ensures within { IfSome result (λ place. place < length steps.now.waiting) }
-    ensures eligible { IfSome result (λ place. eligible_at (entries_in steps.now.waiting) place ≡ true) }
-    ensures only { OnlyEnds steps.now result }
+fn next_task(followed: &Followed<'_>) -> Option<usize>
+    ensures within { IfSome result (λ place. place < length followed.now.waiting) }
+    ensures eligible { IfSome result (λ place. eligible_at (entries_in followed.now.waiting) place ≡ true) }
+    ensures only { OnlyEnds followed.now result }
 {
-    let (nexus, tag) = next_name(&steps.output)?;
-    let place = steps.waiting.find(nexus, tag)?;
-    if !steps.waiting.eligible(place) {
+    let (nexus, tag) = next_name(&followed.output)?;
+    let place = followed.waiting.find(nexus, tag)?;
+    if !followed.waiting.eligible(place) {
         return None;
     }
     Some(place)
@@ -109,32 +109,32 @@ fn is_cached(identity: &Identity, fua: bool) -> bool
 /// A task ends: whether there is one whose answer comes next in the output, with which each sector goes along. In a run that
 /// can be audited READs, WRITEs and SYNCHRONIZE CACHEs end (SAM-5 8).
 pub fn end_task(
-    steps: &mut Steps<'_>,
+    followed: &mut Followed<'_>,
     sectors: &mut Sectors,
     identity: &Identity,
     input: &[u8],
 ) -> Result<bool, NoMemory>
-    requires tasks { AreTasks identity.now input.now steps.old.waiting }
+    requires tasks { AreTasks identity.now input.now followed.old.waiting }
     requires sectors { length sectors.old ≡ identity.now.capacity }
     requires small { length input.now < 2 ^ 63 }
     requires capacity { identity.now.capacity < 2 ^ 64 }
-    ensures tasks { AreTasks identity.now input.now steps.new.waiting }
+    ensures tasks { AreTasks identity.now input.now followed.new.waiting }
     ensures length { OnOk result (length sectors.new ≡ length sectors.old) }
     ensures ends { IfOk result (EndsOrCannot (recorded identity.now input.now)
-        (progress steps.old sectors.old) (progress steps.new sectors.new)) }
+        (progress followed.old sectors.old) (progress followed.new sectors.new)) }
 {
-    let Some(place) = next_task(steps) else {
+    let Some(place) = next_task(followed) else {
         return Ok(false);
     };
-    let entry = steps.waiting.entry(place);
+    let entry = followed.waiting.entry(place);
     let name = Name {
         nexus: entry.nexus,
         tag: entry.tag,
     };
     let command = entry.command;
-    let at = steps.waiting.data_at(place);
-    steps.waiting.remove(place);
-    let output = &mut steps.output;
+    let at = followed.waiting.data_at(place);
+    followed.waiting.remove(place);
+    let output = &mut followed.output;
     match command {
         Command::Read { lba, count, .. } => {
             read_ends(output, sectors, input, name, Range { lba, count })
@@ -160,26 +160,26 @@ pub fn end_task(
 /// So many turns, each of which ends a task where there is one: whether they can be done with the answers that come next in the
 /// output, and with which each sector goes along (SAM-5 8; profile).
 pub fn turn(
-    steps: &mut Steps<'_>,
+    followed: &mut Followed<'_>,
     sectors: &mut Sectors,
     identity: &Identity,
     input: &[u8],
     count: u16,
 ) -> Result<bool, NoMemory>
-    requires tasks { AreTasks identity.now input.now steps.old.waiting }
+    requires tasks { AreTasks identity.now input.now followed.old.waiting }
     requires sectors { length sectors.old ≡ identity.now.capacity }
     requires small { length input.now < 2 ^ 63 }
     requires capacity { identity.now.capacity < 2 ^ 64 }
-    ensures tasks { AreTasks identity.now input.now steps.new.waiting }
+    ensures tasks { AreTasks identity.now input.now followed.new.waiting }
     ensures length { OnOk result (length sectors.new ≡ length sectors.old) }
     ensures turns { IfOk result (Turns (recorded identity.now input.now) count
-        (progress steps.old sectors.old) (progress steps.new sectors.new)) }
+        (progress followed.old sectors.old) (progress followed.new sectors.new)) }
 {
     for _done in 0..count {
-        if steps.waiting.is_empty() {
+        if followed.waiting.is_empty() {
             return Ok(true);
         }
-        if !end_task(steps, sectors, identity, input)? {
+        if !end_task(followed, sectors, identity, input)? {
             return Ok(false);
         }
     }

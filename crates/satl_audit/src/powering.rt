@@ -11,7 +11,7 @@ ghost use Rattle.satl_audit.specs.Powering.{PendsAll, PendsUpTo, power_deeds, sh
 ghost use Rattle.satl_audit.specs.Waiting.{AllFit};
 ghost use Rattle.satl_audit.specs.Progress.{progress, recorded};
 
-use crate::arriving::Steps;
+use crate::arriving::Followed;
 use crate::effects::pend_blocks;
 use crate::sectors::Sectors;
 use crate::waiting::Waiting;
@@ -76,17 +76,17 @@ fn tell_all(conditions: &mut [Attentions; NEXUSES])
 
 /// The power is lost: no task waits any more, each nexus is to be told, and each sector goes along with it (SAM-5 6.3; SBC-3
 /// 4.15).
-pub fn power(steps: &mut Steps<'_>, sectors: &mut Sectors) -> Result<(), NoMemory>
-    requires fit { (size : ℕ) × (size < 2 ^ 63) × AllFit (length sectors.old) size steps.old.waiting }
+pub fn power(followed: &mut Followed<'_>, sectors: &mut Sectors) -> Result<(), NoMemory>
+    requires fit { (size : ℕ) × (size < 2 ^ 63) × AllFit (length sectors.old) size followed.old.waiting }
     requires capacity { length sectors.old < 2 ^ 64 }
-    ensures none { OnOk result (steps.new.waiting ≡ []) }
+    ensures none { OnOk result (followed.new.waiting ≡ []) }
     ensures length { OnOk result (length sectors.new ≡ length sectors.old) }
     ensures goes { (identity : Identity) → (input : List ℕ)
         → OnOk result (GoesOn (recorded identity input) (frames.Bench events.Power)
-        (progress steps.old sectors.old) (progress steps.new sectors.new)) }
+        (progress followed.old sectors.old) (progress followed.new sectors.new)) }
 {
-    power_sectors(&steps.waiting, sectors)?;
-    steps.waiting.clear();
-    tell_all(&mut steps.attentions);
+    power_sectors(&followed.waiting, sectors)?;
+    followed.waiting.clear();
+    tell_all(&mut followed.attentions);
     Ok(())
 }

@@ -1,5 +1,5 @@
 // All sectors.
-ghost use Rattle.std.specs.Prelude.{◌≡◌, ◌≤◌, ◌<◌, ◌==◌, OnOk, IfOk, length, map, replicate, drop, if◌then◌else◌, nat_lt, slice_set};
+ghost use Rattle.std.specs.Prelude.{◌≡◌, ◌≤◌, ◌<◌, ◌==◌, OnOk, OnErr, IfOk, length, map, replicate, drop, if◌then◌else◌, nat_lt, slice_set};
 ghost use Rattle.satl_audit.specs.Kept.{ShowsAt, blank_keeping, kept_at, kept_pending, kept_power, kept_put, kept_settle};
 ghost use Rattle.satl_audit.specs.Sweeps.{Shows, after_first, caught_up, has_power};
 
@@ -46,17 +46,18 @@ fn power_if(kept: &mut Kept, lost: bool) -> Result<(), NoMemory>
 }
 
 impl Stamped {
-    /// Catches up with the sweeps that it has missed. `powers` is how many there were behind the last loss of power.
-    fn catch_up(&mut self, sweeps: &[Sweep], powers: usize) -> Result<(), NoMemory>
+    /// Catches up with the sweeps that it has missed. `swept_at_loss` is how many there were once the power was last lost, that
+    /// loss included; 0 before any.
+    fn catch_up(&mut self, sweeps: &[Sweep], swept_at_loss: usize) -> Result<(), NoMemory>
         requires seen { self.old.seen ≤ length sweeps.now }
-        requires powers { has_power (drop self.old.seen sweeps.now) ≡ nat_lt self.old.seen powers }
+        requires at_loss { has_power (drop self.old.seen sweeps.now) ≡ nat_lt self.old.seen swept_at_loss }
         ensures kept { OnOk result (self.new.kept ≡ caught_up (drop self.old.seen sweeps.now) self.old.kept) }
         ensures seen { OnOk result (self.new.seen ≡ length sweeps.now) }
         ensures within { self.new.seen ≤ length sweeps.now }
     {
         let first = sweeps.get(self.seen).copied();
         settle_first(&mut self.kept, first);
-        let lost = self.seen < powers;
+        let lost = self.seen < swept_at_loss;
         power_if(&mut self.kept, lost)?;
         self.seen = sweeps.len();
         Ok(())
@@ -66,30 +67,35 @@ impl Stamped {
     fn put(
         &mut self,
         sweeps: &[Sweep],
-        powers: usize,
+        swept_at_loss: usize,
         v: Content,
         cached: bool,
     ) -> Result<(), NoMemory>
         requires seen { self.old.seen ≤ length sweeps.now }
-        requires powers { has_power (drop self.old.seen sweeps.now) ≡ nat_lt self.old.seen powers }
+        requires at_loss { has_power (drop self.old.seen sweeps.now) ≡ nat_lt self.old.seen swept_at_loss }
         ensures kept { OnOk result (self.new.kept
             ≡ kept_put v cached (caught_up (drop self.old.seen sweeps.now) self.old.kept)) }
         ensures seen { OnOk result (self.new.seen ≡ length sweeps.now) }
         ensures within { self.new.seen ≤ length sweeps.now }
     {
-        self.catch_up(sweeps, powers)?;
+        self.catch_up(sweeps, swept_at_loss)?;
         self.kept.put(v, cached)
     }
 
     /// Catches up, and the power is lost where a block may have been put before.
-    fn pending(&mut self, sweeps: &[Sweep], powers: usize, v: Content) -> Result<(), NoMemory>
+    fn pending(
+        &mut self,
+        sweeps: &[Sweep],
+        swept_at_loss: usize,
+        v: Content,
+    ) -> Result<(), NoMemory>
         requires seen { self.old.seen ≤ length sweeps.now }
-        requires powers { has_power (drop self.old.seen sweeps.now) ≡ nat_lt self.old.seen powers }
+        requires at_loss { has_power (drop self.old.seen sweeps.now) ≡ nat_lt self.old.seen swept_at_loss }
         ensures kept { OnOk result (self.new.kept ≡ kept_pending v (caught_up (drop self.old.seen sweeps.now) self.old.kept)) }
         ensures seen { OnOk result (self.new.seen ≡ length sweeps.now) }
         ensures within { self.new.seen ≤ length sweeps.now }
     {
-        self.catch_up(sweeps, powers)?;
+        self.catch_up(sweeps, swept_at_loss)?;
         self.kept.pending(v)
     }
 
@@ -97,19 +103,19 @@ impl Stamped {
     fn show(
         &mut self,
         sweeps: &[Sweep],
-        powers: usize,
+        swept_at_loss: usize,
         input: &[u8],
         given: &[u8],
     ) -> Result<bool, NoMemory>
         requires size { length given.now ≡ 512 }
         requires seen { self.old.seen ≤ length sweeps.now }
-        requires powers { has_power (drop self.old.seen sweeps.now) ≡ nat_lt self.old.seen powers }
+        requires at_loss { has_power (drop self.old.seen sweeps.now) ≡ nat_lt self.old.seen swept_at_loss }
         ensures shows { IfOk result (Shows input.now given.now
             (caught_up (drop self.old.seen sweeps.now) self.old.kept) self.new.kept) }
         ensures seen { OnOk result (self.new.seen ≡ length sweeps.now) }
         ensures within { self.new.seen ≤ length sweeps.now }
     {
-        self.catch_up(sweeps, powers)?;
+        self.catch_up(sweeps, swept_at_loss)?;
         Ok(self.kept.show(input, given))
     }
 }
@@ -120,8 +126,8 @@ impl Stamped {
 pub struct Sectors {
     stamped: Vec<Stamped>,
     sweeps: Vec<Sweep>,
-    // how many sweeps there were behind the last loss of power
-    powers: usize,
+    // How many sweeps there were once the power was last lost, that loss included; 0 before any.
+    swept_at_loss: usize,
 }
 
 impl Model for Sectors {
@@ -135,7 +141,7 @@ impl Model for Sectors {
     ghost view = { λ s. map (λ t. caught_up (drop t.seen s.sweeps.items) t.kept) s.stamped.items };
 
     ghost invariant = { λ s. AllByRecursion (λ t. t.seen ≤ length s.sweeps.items) s.stamped.items
-        × ((n : ℕ) → has_power (drop n s.sweeps.items) ≡ nat_lt n s.powers) };
+        × ((n : ℕ) → has_power (drop n s.sweeps.items) ≡ nat_lt n s.swept_at_loss) };
 }
 
 impl Sectors {
@@ -154,24 +160,26 @@ impl Sectors {
         Ok(Sectors {
             stamped,
             sweeps,
-            powers: 0,
+            swept_at_loss: 0,
         })
     }
 
-    /// All is written back (SBC-3, SYNCHRONIZE CACHE).
+    /// All is written back (SBC-3, SYNCHRONIZE CACHE). `NoMemory` leaves the sectors as they were.
     pub fn settle(&mut self) -> Result<(), NoMemory>
-        ensures { OnOk result (self.new ≡ map kept_settle self.old) }
+        ensures settled { OnOk result (self.new ≡ map kept_settle self.old) }
+        ensures stays { OnErr result (self.new ≡ self.old) }
     {
         self.sweeps.push(Sweep::Settled)?;
         Ok(())
     }
 
-    /// The power is lost (SBC-3 4.15).
+    /// The power is lost (SBC-3 4.15). `NoMemory` leaves the sectors as they were.
     pub fn power(&mut self) -> Result<(), NoMemory>
-        ensures { OnOk result (self.new ≡ map kept_power self.old) }
+        ensures lost { OnOk result (self.new ≡ map kept_power self.old) }
+        ensures stays { OnErr result (self.new ≡ self.old) }
     {
         self.sweeps.push(Sweep::Powered)?;
-        self.powers = self.sweeps.len();
+        self.swept_at_loss = self.sweeps.len();
         Ok(())
     }
 
@@ -196,7 +204,7 @@ impl Sectors {
         ensures length { length self.new ≡ length self.old }
         ensures put { OnOk result (self.new ≡ slice_set self.old lba (kept_put v cached (kept_at self.old lba))) }
     {
-        self.stamped[lba].put(&self.sweeps, self.powers, v, cached)
+        self.stamped[lba].put(&self.sweeps, self.swept_at_loss, v, cached)
     }
 
     /// The power is lost at an address where this block may have been put before (SBC-3 4.15). `NoMemory` leaves sectors of
@@ -206,7 +214,7 @@ impl Sectors {
         ensures length { length self.new ≡ length self.old }
         ensures pending { OnOk result (self.new ≡ slice_set self.old lba (kept_pending v (kept_at self.old lba))) }
     {
-        self.stamped[lba].pending(&self.sweeps, self.powers, v)
+        self.stamped[lba].pending(&self.sweeps, self.swept_at_loss, v)
     }
 
     /// A READ gave 512 bytes at an address: whether its sector may have them; then they are its block (SBC-3, READ commands).
@@ -217,6 +225,6 @@ impl Sectors {
         ensures length { length self.new ≡ length self.old }
         ensures shows { IfOk result (ShowsAt input.now lba given.now self.old self.new) }
     {
-        self.stamped[lba].show(&self.sweeps, self.powers, input, given)
+        self.stamped[lba].show(&self.sweeps, self.swept_at_loss, input, given)
     }
 }

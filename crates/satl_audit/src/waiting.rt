@@ -14,9 +14,9 @@ use std::marker::Model;
 #[derive(Drop)]
 pub struct Waiting {
     tasks: TaskSet,
-    // the place of the data-out of the task in each slot
+    // The place of the data-out of the task in each slot.
     places: [usize; MOST_TASKS],
-    // where a task comes from
+    // Where a task comes from.
     desk: TaskBox,
 }
 

@@ -21,6 +21,7 @@ pub fn read_to_end(alloc: Global, trim: bool, source: &mut Slice<'_>) -> Result<
     let mut room = [0; LONGEST_EVENT];
     let len = source.left();
     loop {
+        // Before the first frame the magic is not read yet.
         let at = (len - source.left()).max(MAGIC_SIZE) as u64;
         let frame = match reader.next(source, &mut lender, &mut room) {
             Ok(frame) => frame,

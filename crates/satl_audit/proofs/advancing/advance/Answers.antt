@@ -6,7 +6,7 @@ use Rattle.satl_audit.proofs.AdvanceLemmas.{bench_advances, request_advances}
 use Rattle.satl_audit.proofs.advancing.advance.Goals as goal
 
 pub bench-requires-clause-fit : goal.bench-requires-clause-fit
-bench-requires-clause-fit c = (length c.args.input.now, c.requires.small, subst (λ n. AllFit n (length c.args.input.now) c.args.steps.now.waiting) (sym c.requires.sectors) c.requires.tasks.fit)
+bench-requires-clause-fit c = (length c.args.input.now, c.requires.small, subst (λ n. AllFit n (length c.args.input.now) c.args.followed.now.waiting) (sym c.requires.sectors) c.requires.tasks.fit)
 
 pub returns-in-Request-clause-fit : goal.returns-in-Request-clause-fit
 returns-in-Request-clause-fit c =
@@ -15,7 +15,7 @@ returns-in-Request-clause-fit c =
 
 pub returns-in-Request-clause-advances : goal.returns-in-Request-clause-advances
 returns-in-Request-clause-advances c = λ whole cut may.
-    request_advances c.args.identity.now c.args.input.now c.args.steps.now c.arrive.new.steps c.args.sectors.now c.args.sectors.now c.args.at c.in-Request.request c.arrive.result c.arrive.ensures.goes c.arrive.ensures.sticks whole (sym c.in-Request.is ∙ cut) may
+    request_advances c.args.identity.now c.args.input.now c.args.followed.now c.arrive.new.followed c.args.sectors.now c.args.sectors.now c.args.at c.in-Request.request c.arrive.result c.arrive.ensures.goes c.arrive.ensures.sticks whole (sym c.in-Request.is ∙ cut) may
 
 pub returns-in-Bench-clause-fit : goal.returns-in-Bench-clause-fit
 returns-in-Bench-clause-fit c = c.bench.ensures.fit c.args.identity.now.capacity (length c.args.input.now) c.requires.tasks.fit
@@ -23,5 +23,5 @@ returns-in-Bench-clause-fit c = c.bench.ensures.fit c.args.identity.now.capacity
 pub returns-in-Bench-clause-advances : goal.returns-in-Bench-clause-advances
 returns-in-Bench-clause-advances c = λ whole cut may.
     IfOk-weaker c.bench.result _ _
-    (λ result advances. bench_advances c.args.identity.now c.args.input.now c.args.steps.now c.bench.new.steps c.args.sectors.now c.bench.new.sectors c.in-Bench.event result advances whole (sym c.in-Bench.is ∙ cut))
+    (λ result advances. bench_advances c.args.identity.now c.args.input.now c.args.followed.now c.bench.new.followed c.args.sectors.now c.bench.new.sectors c.in-Bench.event result advances whole (sym c.in-Bench.is ∙ cut))
     (c.bench.ensures.advances c.args.identity.now c.args.input.now)

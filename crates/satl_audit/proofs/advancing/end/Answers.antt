@@ -6,11 +6,11 @@ use Rattle.satl_audit.proofs.advancing.end.Goals as goal
 
 pub returns-then-not-branch-clause-advances : goal.returns-then-not-branch-clause-advances
 returns-then-not-branch-clause-advances c =
-    end_stops c.args.identity.now c.args.input.now c.args.steps.now c.turn.new.steps c.args.sectors.now c.turn.new.sectors c.len-count.result c.len-count.ensures.value
-    (subst (λ (b : Bool). Turns (recorded c.args.identity.now c.args.input.now) c.len-count.result (progress c.args.steps.now c.args.sectors.now) (progress c.turn.new.steps c.turn.new.sectors) b) c.if-not-branch.true c.in_ok-turn.ensures.turns)
+    end_stops c.args.identity.now c.args.input.now c.args.followed.now c.turn.new.followed c.args.sectors.now c.turn.new.sectors c.len-count.result c.len-count.ensures.value
+    (subst (λ (b : Bool). Turns (recorded c.args.identity.now c.args.input.now) c.len-count.result (progress c.args.followed.now c.args.sectors.now) (progress c.turn.new.followed c.turn.new.sectors) b) c.if-not-branch.true c.in_ok-turn.ensures.turns)
 
 pub returns-clause-advances : goal.returns-clause-advances
 returns-clause-advances c =
-    end_passes c.args.identity.now c.args.input.now c.args.steps.now c.turn.new.steps _ c.args.sectors.now c.turn.new.sectors c.len-count.result c.len-count.ensures.value c.requires.tasks
-    (subst (λ (b : Bool). Turns (recorded c.args.identity.now c.args.input.now) c.len-count.result (progress c.args.steps.now c.args.sectors.now) (progress c.turn.new.steps c.turn.new.sectors) b) c.if-not-branch.false c.in_ok-turn.ensures.turns)
+    end_passes c.args.identity.now c.args.input.now c.args.followed.now c.turn.new.followed _ c.args.sectors.now c.turn.new.sectors c.len-count.result c.len-count.ensures.value c.requires.tasks
+    (subst (λ (b : Bool). Turns (recorded c.args.identity.now c.args.input.now) c.len-count.result (progress c.args.followed.now c.args.sectors.now) (progress c.turn.new.followed c.turn.new.sectors) b) c.if-not-branch.false c.in_ok-turn.ensures.turns)
     refl c.pass.result c.pass.ensures.passed c.pass.ensures.other

@@ -8,17 +8,17 @@ use Rattle.satl_audit.proofs.arriving.arrive.Goals as goal
 
 pub returns-in-Some-clause-goes : goal.returns-in-Some-clause-goes
 returns-in-Some-clause-goes c = λ yes input body sent.
-    let old = c.args.steps.now in
+    let old = c.args.followed.now in
     attention_goes c.args.identity.now input old.waiting old.attentions (record c.args.request.now { body = body }) sent.unit sent.alone c.next_attention.new.attentions c.in-Some.what c.attention_sense.result old.output c.pass_check.new.output c.in-Some.ensures.next c.in-Some.ensures.left c.attention_sense.ensures (c.pass_check.ensures.passed yes)
 
 pub returns-in-Some-clause-sticks : goal.returns-in-Some-clause-sticks
 returns-in-Some-clause-sticks c = λ failed input body sent.
-    let old = c.args.steps.now in
+    let old = c.args.followed.now in
     attention_sticks c.args.identity.now input old.waiting old.attentions (record c.args.request.now { body = body }) sent.unit sent.alone c.in-Some.what c.attention_sense.result old.output c.in-Some.ensures.next c.attention_sense.ensures (c.pass_check.ensures.other failed)
 
 pub returns-in-Err-Good-clause-goes : goal.returns-in-Err-Good-clause-goes
 returns-in-Err-Good-clause-goes c = λ yes input body sent.
-    let old = c.args.steps.now in
+    let old = c.args.followed.now in
     let i = c.args.identity.now in
     let r = record c.args.request.now { body = body } in
     let s = device_without_sectors i input old.waiting old.attentions in
@@ -28,7 +28,7 @@ returns-in-Err-Good-clause-goes c = λ yes input body sent.
 
 pub returns-in-Err-Good-clause-sticks : goal.returns-in-Err-Good-clause-sticks
 returns-in-Err-Good-clause-sticks c = λ failed input body sent.
-    let old = c.args.steps.now in
+    let old = c.args.followed.now in
     let i = c.args.identity.now in
     let r = record c.args.request.now { body = body } in
     let s = device_without_sectors i input old.waiting old.attentions in
@@ -37,7 +37,7 @@ returns-in-Err-Good-clause-sticks c = λ failed input body sent.
 
 pub returns-in-Err-Check-clause-goes : goal.returns-in-Err-Check-clause-goes
 returns-in-Err-Check-clause-goes c = λ yes input body sent.
-    let old = c.args.steps.now in
+    let old = c.args.followed.now in
     let i = c.args.identity.now in
     let r = record c.args.request.now { body = body } in
     let s = device_without_sectors i input old.waiting old.attentions in
@@ -47,7 +47,7 @@ returns-in-Err-Check-clause-goes c = λ yes input body sent.
 
 pub returns-in-Err-Check-clause-sticks : goal.returns-in-Err-Check-clause-sticks
 returns-in-Err-Check-clause-sticks c = λ failed input body sent.
-    let old = c.args.steps.now in
+    let old = c.args.followed.now in
     let i = c.args.identity.now in
     let r = record c.args.request.now { body = body } in
     let s = device_without_sectors i input old.waiting old.attentions in

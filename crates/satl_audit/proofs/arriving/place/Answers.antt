@@ -16,7 +16,7 @@ use Rattle.satl_audit.proofs.arriving.place.Goals as goal
 pub returns-then-add-clause-goes : goal.returns-then-add-clause-goes
 returns-then-add-clause-goes c = λ _ input body sent is.
     let i = c.args.identity.now in
-    let old = c.args.steps.now in
+    let old = c.args.followed.now in
     let r = record c.args.request.now { body = body } in
     let task = c.task_of-task.ensures body in
     let room = opposite_true _ _ (c.add.ensures.room ∙ ap (λ (t : Entry). not (has_no_room old.waiting t.blocks)) task) c.if-add.true in
@@ -27,7 +27,7 @@ returns-then-add-clause-goes c = λ _ input body sent is.
 pub returns-clause-goes : goal.returns-clause-goes
 returns-clause-goes c = λ yes input body sent is.
     let i = c.args.identity.now in
-    let old = c.args.steps.now in
+    let old = c.args.followed.now in
     let r = record c.args.request.now { body = body } in
     let task = c.task_of-task.ensures body in
     let room = opposite_false _ _ (c.add.ensures.room ∙ ap (λ (t : Entry). not (has_no_room old.waiting t.blocks)) task) c.if-add.false in
@@ -38,7 +38,7 @@ returns-clause-goes c = λ yes input body sent is.
 pub returns-clause-sticks : goal.returns-clause-sticks
 returns-clause-sticks c = λ no input body is.
     let i = c.args.identity.now in
-    let old = c.args.steps.now in
+    let old = c.args.followed.now in
     let r = record c.args.request.now { body = body } in
     let task = c.task_of-task.ensures body in
     let room = opposite_false _ _ (c.add.ensures.room ∙ ap (λ (t : Entry). not (has_no_room old.waiting t.blocks)) task) c.if-add.false in
@@ -50,7 +50,7 @@ task_of-task-requires c = (waits_known _ _ _ c.requires.waits).0
 pub returns-then-add-clause-fits : goal.returns-then-add-clause-fits
 returns-then-add-clause-fits c = λ size within all.
     subst (AllFit c.args.identity.now.capacity size) (sym (c.add.ensures.added c.if-add.true))
-    (All-push_end (Fits c.args.identity.now.capacity size) c.args.steps.now.waiting _ all (record { bytes = c.args.request.now.data_len; waits = subst (MayWait c.args.identity.now.capacity c.args.request.now.data_len) (sym (ap (λ (t : Entry). t.command) (c.task_of-task.ensures []))) c.requires.waits; stands = within; nexus = subst (λ n. n ≤ 3) (sym (ap (λ (t : Entry). t.nexus) (c.task_of-task.ensures []))) c.requires.nexus; held = ap (λ (t : Entry). t.blocks) (c.task_of-task.ensures []) ∙ ap (λ (x : Command). held_blocks x) (sym (ap (λ (t : Entry). t.command) (c.task_of-task.ensures []))) }))
+    (All-push_end (Fits c.args.identity.now.capacity size) c.args.followed.now.waiting _ all (record { bytes = c.args.request.now.data_len; waits = subst (MayWait c.args.identity.now.capacity c.args.request.now.data_len) (sym (ap (λ (t : Entry). t.command) (c.task_of-task.ensures []))) c.requires.waits; stands = within; nexus = subst (λ n. n ≤ 3) (sym (ap (λ (t : Entry). t.nexus) (c.task_of-task.ensures []))) c.requires.nexus; held = ap (λ (t : Entry). t.blocks) (c.task_of-task.ensures []) ∙ ap (λ (x : Command). held_blocks x) (sym (ap (λ (t : Entry). t.command) (c.task_of-task.ensures []))) }))
 
 pub returns-clause-fits : goal.returns-clause-fits
 returns-clause-fits c = λ size within all. subst (AllFit c.args.identity.now.capacity size) (sym (c.add.ensures.kept c.if-add.false)) all

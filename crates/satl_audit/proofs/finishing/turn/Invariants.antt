@@ -5,7 +5,7 @@ use Rattle.satl_audit.proofs.finishing.turn.Given as goal
 
 abbrev pub invariant-loop-done : goal.invariant-loop-done
 invariant-loop-done l = record {
-  tasks : AreTasks l.identity l.input l.steps.waiting;
+  tasks : AreTasks l.identity l.input l.followed.waiting;
   size : length l.sectors ≡ length l.fn.sectors;
-  turns : TurnsOn (recorded l.identity l.input) l._done (progress l.fn.steps l.fn.sectors) (progress l.steps l.sectors);
+  turns : TurnsOn (recorded l.identity l.input) l._done (progress l.fn.followed l.fn.sectors) (progress l.followed l.sectors);
 }

@@ -9,10 +9,10 @@ pub returns-clause-length : goal.returns-clause-length
 returns-clause-length c =
     on_ok_weaker c.power.result
     (λ powered. ap (λ (l : List Keeping). length l) powered ∙ length-map c.pend_tasks.new.sectors kept_power ∙ c.in_ok-pend_tasks.ensures.length)
-    c.power.ensures
+    c.power.ensures.lost
 
 pub returns-clause-follows : goal.returns-clause-follows
 returns-clause-follows c = λ identity input.
     on_ok_weaker c.power.result
     (power_follows identity input c.args.waiting.now c.args.sectors.now c.pend_tasks.new.sectors c.power.new.self c.in_ok-pend_tasks.ensures.length (c.in_ok-pend_tasks.ensures.pends identity input))
-    c.power.ensures
+    c.power.ensures.lost

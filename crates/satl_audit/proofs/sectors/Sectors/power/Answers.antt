@@ -16,7 +16,7 @@ invariant_of-self-2 c =
           (subst (λ (ss : List Sweep). has_power (drop n ss) ≡ nat_lt n (length ss)) more (power_powered n old.sweeps.items)),
     )
 
-pub returns : goal.returns
-returns c =
+pub returns-clause-lost : goal.returns-clause-lost
+returns-clause-lost c =
     let old = c.self.inside in
     ap (λ (ss : List Sweep). map (now_kept ss) old.stamped.items) c.in_ok-push.ensures.items ∙ all_swept old.sweeps.items Powered old.stamped.items c.self.invariant.0 ∙ ap (map kept_power) c.self.view_is

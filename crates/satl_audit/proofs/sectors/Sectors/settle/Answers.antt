@@ -12,10 +12,10 @@ invariant_of-self-2 c =
     let old = c.self.inside in
     let more = sym c.in_ok-push.ensures.items in (
       subst (λ (ss : List Sweep). AllSeen ss old.stamped.items) more (seen_still old.sweeps.items Settled old.stamped.items c.self.invariant.0),
-      λ n. subst (λ (ss : List Sweep). has_power (drop n ss) ≡ nat_lt n old.powers) more (power_settled n old.sweeps.items ∙ c.self.invariant.1 n),
+      λ n. subst (λ (ss : List Sweep). has_power (drop n ss) ≡ nat_lt n old.swept_at_loss) more (power_settled n old.sweeps.items ∙ c.self.invariant.1 n),
     )
 
-pub returns : goal.returns
-returns c =
+pub returns-clause-settled : goal.returns-clause-settled
+returns-clause-settled c =
     let old = c.self.inside in
     ap (λ (ss : List Sweep). map (now_kept ss) old.stamped.items) c.in_ok-push.ensures.items ∙ all_swept old.sweeps.items Settled old.stamped.items c.self.invariant.0 ∙ ap (map kept_settle) c.self.view_is
