@@ -2,7 +2,7 @@
 ghost use Rattle.std.specs.Prelude.{◌≡◌, length};
 ghost use Rattle.satl_vpd.specs.Standard.{revision, standard_data};
 
-use crate::text::{Text, characters, is_blank};
+use crate::text::{ATA_VENDOR, Text, characters, is_blank};
 use satl_identify::Identity;
 use satl_identify::words::{MODEL, REVISION};
 
@@ -51,7 +51,7 @@ pub fn inquiry(identity: &Identity, lun0: bool) -> [u8; 36]
     data[3] = SPC_FORMAT; // RESPONSE DATA FORMAT
     data[4] = BYTES_BEHIND; // ADDITIONAL LENGTH
     data[7] = CMDQUE;
-    data[8..16].copy_from_slice(b"ATA     "); // T10 VENDOR IDENTIFICATION
+    data[8..16].copy_from_slice(&ATA_VENDOR); // T10 VENDOR IDENTIFICATION
     data[16..32].copy_from_slice(&characters(&identity.bytes, MODEL, MODEL + 7)); // PRODUCT IDENTIFICATION
     data[32..].copy_from_slice(&revision(&identity.bytes)); // PRODUCT REVISION LEVEL
     data

@@ -4,6 +4,9 @@ ghost use Rattle.satl_vpd.specs.Texts.{characters, is_blank};
 
 use arrayvec::ArrayVec;
 
+/// T10 VENDOR IDENTIFICATION of an ATA device (SAT-3).
+pub const ATA_VENDOR: [u8; 8] = *b"ATA     ";
+
 /// A text of at most 20 words.
 pub type Text = ArrayVec<u8, 40>;
 

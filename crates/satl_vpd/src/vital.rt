@@ -5,7 +5,7 @@ ghost use Rattle.std.specs.Option.{option_map};
 ghost use Rattle.satl_base.specs.Lists.{is_in};
 ghost use Rattle.satl_vpd.specs.Vital.{ata_information, block_characteristics, block_limits, has_world_wide_name, identification, page_codes, provisioning, serial_number, vpd_page, vpd_page_bytes};
 
-use crate::text::characters;
+use crate::text::{ATA_VENDOR, characters};
 use arrayvec::ArrayVec;
 use byteorder::{BigEndian, ByteOrder};
 use satl_base::{MOST_COVERED, MOST_MOVED, MOST_RANGES, append};
@@ -49,7 +49,7 @@ const LBPWS10: u8 = 0x20;
 /// LBPRZ: a block that was unmapped reads as zeros.
 const LBPRZ: u8 = 0x04;
 
-/// A page of vital product data, at most 572 bytes (SPC-4, Vital product data).
+/// A page of vital product data, at most 572 bytes, with room for 576 (SPC-4, Vital product data).
 pub type VitalPage = ArrayVec<u8, 576>;
 
 /// The head of a page: its code, and the number of bytes after the head.
@@ -114,7 +114,7 @@ fn identification(identity: &Identity) -> VitalPage
 {
     let mut page = begun(vital_page::IDENTIFICATION, identification_length(identity));
     append(&mut page, &[ASCII, T10_VENDOR, 0x00, 0x44]); // CODE SET, DESIGNATOR TYPE, DESIGNATOR LENGTH
-    append(&mut page, b"ATA     "); // T10 VENDOR IDENTIFICATION
+    append(&mut page, &ATA_VENDOR); // T10 VENDOR IDENTIFICATION
     append(&mut page, &characters(&identity.bytes, MODEL, MODEL + 19)); // VENDOR SPECIFIC IDENTIFIER: model
     append(&mut page, &characters(&identity.bytes, SERIAL, SERIAL + 9)); // and serial number
     if has_world_wide_name(&identity.bytes) {
