@@ -1,4 +1,4 @@
-// Limits of the profile, each of which stands here alone.
+// Limits of the profile that several crates have.
 
 /// The most tasks that wait at once (profile).
 pub const MOST_TASKS: usize = 64;

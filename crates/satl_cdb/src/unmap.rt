@@ -55,8 +55,7 @@ fn ranges_up_to(
 /// block, for a medium of `capacity` blocks. `Err` has the first fault: PARAMETER LIST LENGTH ERROR where the block
 /// descriptors exceed the list, INVALID FIELD IN PARAMETER LIST at byte 2 where more than 64 are whole, and then by
 /// descriptor LOGICAL BLOCK ADDRESS OUT OF RANGE, or INVALID FIELD IN PARAMETER LIST at the count with which the sum of
-/// counts exceeds 65,536 (SBC-3, UNMAP command; the limits, and that such a
-/// list is refused: profile).
+/// counts exceeds 65,536 (SBC-3, UNMAP command; the limits, and that such a list is refused: profile).
 pub fn read_unmap_list(
     list: &Pages,
     list_length: u16,

@@ -86,7 +86,7 @@ impl Pool {
         }
     }
 
-    /// Takes `n` pages as `take` does, as the room of data that come later: mostly what came back last by `give_room` (profile).
+    /// Takes `n` pages as `take` does, for data that come later: mostly those that came back last by `give_room` (profile).
     pub fn take_room(&mut self, n: u32) -> Option<Pages>
         ensures fewer { IsNone result ↔ (self.old.free < n) }
         ensures none { IfNone result (self.new ≡ self.old) }
@@ -102,7 +102,7 @@ impl Pool {
         }
     }
 
-    /// Takes pages back as `give` does, which were the room of data (profile).
+    /// Takes pages back as `give` does, to be given out again by `take_room`, and by `take` where no others are left (profile).
     pub fn give_room(&mut self, pages: Pages)
         requires { length pages ≤ self.old.out }
         ensures free { self.new.free ≡ self.old.free + length pages }

@@ -91,7 +91,7 @@ impl Stock {
     }
 }
 
-/// Takes `n` pages: the piece that is nearest in length, made as long with others or at their gain.
+/// Takes `n` pages: the piece that is nearest in length, to which others are added, or from which the rest goes to others.
 #[inline(never)]
 fn gather(pieces: &mut ArrayVec<Pages, 64>, others: &mut Pages, n: u32) -> Pages
     requires enough { n ≤ pages_in pieces.old.items + length others.old }
@@ -138,7 +138,7 @@ fn nearest(pieces: &[Pages], n: u32) -> usize {
     best
 }
 
-/// Makes pages as many as `n`, with others or at their gain.
+/// Makes the pages exactly `n`: what is missing comes from others, and what is too many goes to them.
 #[inline(never)]
 pub(crate) fn fit(pages: &mut Pages, n: u32, others: &mut Pages)
     requires enough { n ≤ length pages.old + length others.old }
