@@ -134,7 +134,7 @@ pub record IsFleetNotServed (before after : FleetMoment) : Type 0 where
   pub alone : AllZip IsLeftAlone before.drives after.drives
   pub few_calls : after.calls ≤ before.calls + length before.drives
 
--- by the fault (profile)
+-- what holds where serving stopped, by the fault (profile)
 abbrev pub IsFleetStopped : ℕ → FleetMoment → FleetMoment → ServeFault → Type 0
 IsFleetStopped limit before after (faults.Open fault) = IsFleetNotServed before after
 IsFleetStopped limit before after (faults.BadInput reason offset) = IsFleetBefore limit (Bad reason offset) before after

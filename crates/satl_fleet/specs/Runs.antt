@@ -27,7 +27,8 @@ unit_stand_of s = unit_stand (device_of s) s.drive
 
 -- events with so many losses were counted: the drive's count of faults rose by the losses at least, or stands at its last
 -- value; its number of unplugs rose by the events that unplug it, or stands at its last value; its account of order bytes has
--- those of the events behind, each event's as one piece, and no others; its deepest queue did not fall (profile)
+-- those of the events behind, each event's as one piece, and no others; its deepest queue did not fall, and is no less than
+-- what is outstanding (profile)
 pub record UnitCounted (events : List Frame) (losses : ℕ) (old new : DriveState) : Type 0 where
   pub faults : RoseBy losses old.faults new.faults
   pub unplugged : RoseBy (unplugs_in events) old.unplugs new.unplugs

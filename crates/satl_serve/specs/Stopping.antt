@@ -58,7 +58,7 @@ Tells form why written written' faults.Read = (why ≡ ReadFault) × (written' �
 Tells form why written written' faults.Write =
     (reason : Reason) × (offset : ℕ) × (why ≡ Bad reason offset) × WrotePart written written' (fault_told form reason offset)
 
--- the same, which takes no fault of writing back, and has one where a write failed (profile)
+-- the same; the count of faults of the sink did not fall, and it rose where a write failed (profile)
 pub record TellsSo (form : Form) (why : FrameFault) (before after : SinkState) (fault : ServeFault) : Type 0 where
   pub tells : Tells form why before.written after.written fault
   pub later : before.faults ≤ after.faults

@@ -1,4 +1,4 @@
-// The top call.
+// The modes that serve one drive.
 ghost use Rattle.std.specs.Prelude.{◌≡◌, ◌⊎◌, map, true};
 ghost use Rattle.std.specs.Rc.{rc_str_bytes};
 ghost use Rattle.satl_base.specs.Limits.{input_limit};
@@ -23,13 +23,13 @@ use std::alloc::Global;
 use std::rc::RcStr;
 use std::sync::ledger::Ledger;
 
-/// Does all that the program does (profile): `replay` and `show` serve the frames of the source on the drive and write the
-/// answers to the sink, as frames or as lines of text; `usb` carries out the items of the source, and answers them on the wire
-/// of USB Bulk-Only Transport; `audit` judges a record and says so in a line; `gen` serves a generated input and writes its
-/// totals, and reads nothing. Plain words mean what they spell, and all others what clap makes of them. The drive has nothing
-/// outstanding and is in no error state, and its IDENTIFY DEVICE data fit it. The status says how that ended. The drive is
-/// called at most once for its identity, 1,089 times for each request and 33 times for each task management function, in sum;
-/// those between an UNPLUG and the next POWER add none.
+/// Does what the words ask for with one drive, in each mode but `fleet` (profile): `replay` and `show` serve the frames of the
+/// source on the drive and write the answers to the sink, as frames or as lines of text; `usb` carries out the items of the
+/// source, and answers them on the wire of USB Bulk-Only Transport; `audit` judges a record and says so in a line; `gen` serves
+/// a generated input and writes its totals, and reads nothing. Plain words mean what they spell, and all others what clap makes
+/// of them. The drive has nothing outstanding and is in no error state, and its IDENTIFY DEVICE data fit it. The status says
+/// how that ended. The drive is called at most once for its identity, 1,089 times for each request and 33 times for each task
+/// management function, in sum; those between an UNPLUG and the next POWER add none.
 pub fn satl<S: Source, K: Sink, D: Bench<L>, L: Ledger>(
     alloc: Global,
     words: &[RcStr],
