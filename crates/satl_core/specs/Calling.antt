@@ -1,15 +1,57 @@
--- How many drive calls the queue takes, and what for (ACS-3, native command queuing; profile).
-use Rattle.std.specs.Prelude.{◌≡◌, ℕ, ◌+◌, Bool, List, [], Option, Some, None, length}
+-- How many drive calls a task that runs alone and the queue take, and what for (SAT-3 8; ACS-3, native command queuing;
+-- profile).
+use Rattle.std.specs.Prelude.{◌≡◌, ℕ, ◌+◌, ◌&&◌, not, Bool, false, if◌then◌else◌, List, [], ◌∷◌, Option, Some, None, length}
 use Rattle.std.specs.List.{AllByRecursion}
 use Rattle.satl_base.specs.declared.reply.Reply.{Reply}
 use Rattle.satl_base.specs.declared.reply.Scsi.TheVariants.{Good}
 use Rattle.satl_errlog.specs.declared.entry.NcqError.{NcqError}
+use Rattle.satl_cdb.specs.declared.command.Command.{Command}
 use Rattle.satl_line.specs.declared.entry.Entry.{Entry}
+use Rattle.satl_line.specs.Tasks.{Held}
+use Rattle.satl_direct.specs.Tasks.{asks}
+use Rattle.satl_barrier.specs.Finishing.{most_pieces}
 use Rattle.satl_flight.specs.declared.flight.Flying.{Flying}
 use Rattle.satl_flight.specs.Leaving.{AreLeft, settle_calls}
 use Rattle.satl_flight.specs.Settled.{IssuesInOrder}
 use Rattle.satl_core.specs.Layer.{Layer}
 use Rattle.satl_core.specs.Leaving.{AreWaiting}
+use Rattle.satl_core.specs.Alone.{alone_of}
+use Rattle.satl_core.specs.declared.alone.Alone.{Alone}
+use Rattle.satl_core.specs.declared.alone.Alone.TheVariants as alones
+
+-- the most drive calls of a command that runs alone: one for each mode value that a MODE SELECT changes on the drive, a flush
+-- before a stop, for a comparison one that finds flaws and one for each 64 of up to 4,096 blocks, for a WRITE SAME one for each
+-- 64 of up to 65,536, and one for each other command (SAT-3 8; profile)
+abbrev pub calls_alone : Alone → ℕ
+calls_alone alones.Select = 2
+calls_alone (alones.Switch start no_flush) = 2
+calls_alone (alones.Compare range) = 65
+calls_alone (alones.WriteSame range) = most_pieces
+calls_alone _ = 1
+
+-- whether a task is refused as its turn comes, as its command needs a started unit and this one is stopped (SPC-4 4.5.6, NOT
+-- READY)
+abbrev pub is_unready : Bool → Command → Bool
+is_unready started command = not started && (asks command).needs_started
+
+-- the most drive calls of what runs alone, if it does
+abbrev pub calls_if_alone : Option Alone → ℕ
+calls_if_alone None = 0
+calls_if_alone (Some alone) = calls_alone alone
+
+-- the most drive calls of a task whose turn it is and which is not outstanding (profile)
+abbrev pub calls_of_turn : Bool → Command → ℕ
+calls_of_turn started command = if is_unready started command then 0 else calls_if_alone (alone_of command)
+
+-- those of the first task
+abbrev pub calls_of_first : Bool → List Held → ℕ
+calls_of_first started [] = 0
+calls_of_first started (h ∷ hs) = calls_of_turn started h.entry.command
+
+-- whether the first task is refused so
+abbrev pub is_first_unready : Bool → List Held → Bool
+is_first_unready started [] = false
+is_first_unready started (h ∷ hs) = is_unready started h.entry.command
 
 -- beside what was outstanding tasks were issued, in order of arrival, with as many drive calls as there are more of them
 -- outstanding now (profile)

@@ -124,7 +124,7 @@ HoldsList r = (r.data_len ≤ 512 * length r.body) ⊎ (65536 ≤ 512 * length r
 abbrev pub HasLengths : List ℕ → Type 0
 HasLengths cdb = (slice_index cdb 4 < 256) × (slice_index cdb 7 < 256) × (slice_index cdb 8 < 256)
 
--- the same, or it is empty (SBC-3 5.28)
+-- the list of an UNMAP is one without a fault, or it is empty (SBC-3 5.28)
 abbrev pub HasListUnlessEmpty : Command → List Block → ℕ → Type 0
 HasListUnlessEmpty (commands.Unmap size) body capacity = (size ≡ 0) ⊎ IsList body size capacity
 HasListUnlessEmpty _ body capacity = Unit {0}

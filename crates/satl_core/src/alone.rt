@@ -61,8 +61,8 @@ impl Alone {
         Some(alone)
     }
 
-    /// Whether it waits for a started unit, which this one is or is not (SPC-4 4.5.6, NOT READY).
-    pub fn waits(&self, started: bool) -> bool
+    /// Whether it is answered with NOT READY: it needs a started unit, and this one is stopped (SPC-4 4.5.6).
+    pub fn is_not_ready(&self, started: bool) -> bool
         ensures { result ≡ (not started && needs_start self.now) }
     {
         !started

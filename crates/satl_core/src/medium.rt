@@ -2,12 +2,11 @@
 ghost use Rattle.std.specs.Prelude.{◌≡◌, ◌≤◌, ◌+◌, [], IfOk, OnErr, false, length, min, get_or};
 ghost use Rattle.satl_base.specs.Blocks.{no_block};
 ghost use Rattle.satl_base.specs.Limits.{most_moved, piece};
-ghost use Rattle.satl_barrier.specs.Finishing.{IsReached, trimming_ranges, writing_same};
+ghost use Rattle.satl_barrier.specs.Finishing.{IsReached, most_pieces, trimming_ranges, writing_same};
 ghost use Rattle.satl_barrier.specs.Leaving.{IsFree, IsLostIn, Stays};
 ghost use Rattle.satl_direct.specs.Senses;
 ghost use Rattle.satl_core.specs.Medium as medium;
 ghost use Rattle.satl_core.specs.Medium.{HasCompared, HasFinished, HasVerified, TakesTrim};
-ghost use Rattle.satl_core.specs.Turning.{barrier_calls};
 
 use crate::turning::Ending;
 use satl_asks::miscompare;
@@ -30,7 +29,7 @@ pub fn verify_range<D: Drive<L>, L: Ledger>(
     ensures ends { IfOk result (λ ending. HasVerified range (D.state drive.old) ending (D.state drive.new)) }
     ensures lost { OnErr result (IsLostIn [] (D.state drive.old) (D.state drive.new)) }
     ensures stays { Stays (D.state drive.old) (D.state drive.new) }
-    ensures steps { steps.new ≤ steps.old + barrier_calls }
+    ensures step { steps.new ≡ steps.old + 1 }
 {
     let flaw = verify(range, drive, steps)?;
     Ok(verified(flaw))
@@ -53,7 +52,7 @@ pub fn compare_range<D: Drive<L>, L: Ledger>(
     ensures lost { OnErr result (IsLostIn [] (D.state drive.old) (D.state drive.new)) }
     ensures stays { Stays (D.state drive.old) (D.state drive.new) }
     ensures pool { pool.new ≡ pool.old }
-    ensures steps { steps.new ≤ steps.old + barrier_calls }
+    ensures steps { steps.new ≤ steps.old + 65 }
 {
     let mut scratch = scratch_pages(pool);
     let comparison = compare(range, blocks, &mut scratch, drive, steps);
@@ -79,7 +78,7 @@ pub fn write_range<D: Drive<L>, L: Ledger>(
         (D.state drive.old) (D.state drive.new)) }
     ensures stays { Stays (D.state drive.old) (D.state drive.new) }
     ensures pool { pool.new ≡ pool.old }
-    ensures steps { steps.new ≤ steps.old + barrier_calls }
+    ensures steps { steps.new ≤ steps.old + most_pieces }
 {
     let mut scratch = scratch_pages(pool);
     let finish = write_same(range, body.block(0), &mut scratch, drive, steps);
@@ -103,7 +102,7 @@ pub fn trim_ranges<D: Drive<L>, L: Ledger>(
         (D.state drive.new)) }
     ensures stays { Stays (D.state drive.old) (D.state drive.new) }
     ensures pool { pool.new ≡ pool.old }
-    ensures steps { steps.new ≤ steps.old + barrier_calls }
+    ensures step { steps.new ≡ steps.old + 1 }
 {
     let mut scratch = scratch_pages(pool);
     let finish = trim(ranges, &mut scratch, drive, steps);

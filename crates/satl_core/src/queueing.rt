@@ -9,7 +9,7 @@ ghost use Rattle.satl_frame.specs.Output.{IsWritable};
 ghost use Rattle.satl_direct.specs.Quiet.{Around};
 ghost use Rattle.satl_direct.specs.Run.{MayLose};
 ghost use Rattle.satl_flight.specs.Settled.{IsFilled};
-ghost use Rattle.satl_core.specs.Calling.{OnlyIssues, PollsOnce, ResetsFor};
+ghost use Rattle.satl_core.specs.Calling.{OnlyIssues, PollsOnce, ResetsFor, calls_of_first, is_first_unready};
 ghost use Rattle.satl_core.specs.Flushed.{IsFlushed, IsSettled};
 ghost use Rattle.satl_core.specs.Layer.{Agrees, Tied, reply_pages, view, works};
 ghost use Rattle.satl_core.specs.Leaving.{is_within};
@@ -67,6 +67,7 @@ impl Satl {
             → AllByRecursion IsSettled (D.state drive.new).cells }
         ensures unasked { self.old.down ≡ true → drive.new ≡ drive.old }
         ensures uncalled { self.old.down ≡ true → steps.new ≡ steps.old }
+        ensures unready { self.old.started ≡ false → drive.new ≡ drive.old }
         ensures unanswered { self.old.down ≡ true → (replies.new ≡ replies.old) × (self.new ≡ self.old) }
         ensures unlost { self.new.down ≡ false → replies.new ≡ replies.old }
         ensures issues { self.new.down ≡ false → OnlyIssues self.old.flying steps.old self.new steps.new }
@@ -196,6 +197,9 @@ impl Satl {
         ensures still_down { self.old.down ≡ true → self.new.down ≡ true }
         ensures unasked { self.old.down ≡ true → drive.new ≡ drive.old }
         ensures uncalled { self.old.down ≡ true → steps.new ≡ steps.old }
+        ensures unready { is_first_unready self.old.started self.old.tasks ≡ true
+            → (drive.new ≡ drive.old) × (self.new.started ≡ false) }
+        ensures first_calls { self.old.flying ≡ [] → steps.new ≤ steps.old + calls_of_first self.old.started self.old.tasks }
         ensures polls { self.old.flying ≢ [] → self.new.down ≡ false
             → PollsOnce self.old.flying steps.old replies.new self.new.flying steps.new }
         ensures idle { self.old.flying ≡ [] → self.new.flying ≡ [] }
@@ -236,6 +240,9 @@ impl Satl {
         ensures still_down { self.old.down ≡ true → self.new.down ≡ true }
         ensures unasked { self.old.down ≡ true → drive.new ≡ drive.old }
         ensures uncalled { self.old.down ≡ true → steps.new ≡ steps.old }
+        ensures unready { is_first_unready self.old.started self.old.tasks ≡ true
+            → (drive.new ≡ drive.old) × (self.new.started ≡ false) }
+        ensures first_calls { steps.new ≤ steps.old + calls_of_first self.old.started self.old.tasks }
         ensures steps { steps.new ≤ steps.old + barrier_calls }
     {
         self.queue.remove(0, &mut self.desk);

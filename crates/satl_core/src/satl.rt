@@ -27,7 +27,7 @@ ghost use Rattle.satl_base.specs.Limits.{most_held, most_tasks};
 ghost use Rattle.satl_core.specs.Flushed.{IsFlushed, IsSettled};
 ghost use Rattle.satl_core.specs.Turning.{off_calls, turn_calls};
 ghost use Rattle.satl_flight.specs.Settled.{Deepens, IssuesInOrder};
-ghost use Rattle.satl_core.specs.Calling.{PollsAndIssues, ResetsFor};
+ghost use Rattle.satl_core.specs.Calling.{PollsAndIssues, ResetsFor, calls_of_first, is_first_unready};
 ghost use Rattle.satl_core.specs.Leaving.{is_within};
 ghost use Rattle.satl_core.specs.Managing.{effect};
 
@@ -64,10 +64,10 @@ const POOL_PAGES: u32 = 32_960;
 /// Why the layer is not opened (profile).
 #[derive(Clone, Copy, Debug, PartialEq, Eq, Error)]
 pub enum OpenFault {
-    /// Its IDENTIFY DEVICE data are refused, for this reason.
+    /// The drive's IDENTIFY DEVICE data are refused, for this reason.
     #[error("the layer does not serve this drive")]
     Identity(IdentityFault),
-    /// Its link was lost before they were read.
+    /// The drive's link was lost before they were read.
     #[error("the link to the drive is lost")]
     LinkDown,
     /// There is not the memory.
@@ -361,6 +361,9 @@ impl Satl {
         ensures in_order { self.old.flying ≡ [] → self.new.down ≡ false
             → IssuesInOrder [] self.new.flying self.new.tasks }
         ensures queued { self.old.flying ≢ [] → steps.new ≤ steps.old + 34 }
+        ensures unready { is_first_unready self.old.started self.old.tasks ≡ true → drive.new ≡ drive.old }
+        ensures first_calls { self.old.flying ≡ [] → self.new.down ≡ false
+            → steps.new ≤ steps.old + (calls_of_first self.old.started self.old.tasks + length self.new.flying) }
         ensures none { self.old.tasks ≡ [] → steps.new ≡ steps.old }
         ensures steps { steps.new ≤ steps.old + turn_calls }
         ensures calls { steps.new + turn_calls * length self.new.tasks ≤ steps.old + turn_calls * length self.old.tasks }

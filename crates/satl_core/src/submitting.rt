@@ -170,7 +170,7 @@ fn data_fault(satl: &Satl, request: &Request, command: &Command) -> Option<Illeg
     ensures list { IfNone result (HasListUnlessEmpty command.now request.now.body satl.now.identity.capacity) }
 {
     match *command {
-        Command::ModeSelect { ten, length } => list_fault(satl, request, length, ten),
+        Command::ModeSelect { ten, length } => select_fault(satl, request, length, ten),
         Command::WriteSame { unmap: true, .. } => block_fault(request.body.block(0)),
         Command::Unmap { length } => unmap_fault(&request.body, length, satl.identity.capacity),
         _ => None,
@@ -203,7 +203,8 @@ fn unmap_fault(list: &Pages, size: u16, capacity: u64) -> Option<Illegal>
     }
 }
 
-fn list_fault(satl: &Satl, request: &Request, length: u16, ten: bool) -> Option<Illegal>
+/// The refusal of the list of a MODE SELECT (SPC-4, MODE SELECT commands).
+fn select_fault(satl: &Satl, request: &Request, length: u16, ten: bool) -> Option<Illegal>
     requires holds { HoldsList request.now }
     requires long { length ≤ request.now.data_len }
     ensures { result ≡ select_fault satl.now.identity satl.now.modes request.now.body length ten }

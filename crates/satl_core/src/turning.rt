@@ -6,12 +6,13 @@ ghost use Rattle.satl_direct.specs.Senses;
 ghost use Rattle.satl_base.specs.Limits.{most_moved, piece};
 ghost use Rattle.satl_core.specs.Layer.{IsTask, held_pages};
 ghost use Rattle.satl_core.specs.Alone.{alone_of};
+ghost use Rattle.satl_core.specs.Calling.{calls_alone, calls_of_turn, is_unready};
 ghost use Rattle.satl_core.specs.Medium.{CanCarry, HasWhole, written_alone};
 ghost use Rattle.satl_base.specs.declared.modes.Modes.{Modes};
 ghost use Rattle.satl_core.specs.Turning;
 ghost use Rattle.satl_barrier.specs.Leaving.{IsFree, IsLostIn, Stays};
 ghost use Rattle.satl_barrier.specs.Settings.{CanSet, IsSetBy};
-ghost use Rattle.satl_core.specs.Turning.{CarriedOut, IsLostInTask, TaskEnds, barrier_calls, ended_reply, lost_replies, modes_after, modes_left, started_after, task_on};
+ghost use Rattle.satl_core.specs.Turning.{CarriedOut, IsLostInTask, TaskEnds, ended_reply, lost_replies, modes_after, modes_left, started_after, task_on};
 
 use crate::alone::Alone;
 use crate::medium::{compare_range, trim_ranges, verify_range, write_range};
@@ -76,7 +77,8 @@ pub fn run_task<D: Drive<L>, L: Ledger>(
     ensures pool { pool.new ≡ pool.old }
     ensures unasked { down ≡ true → drive.new ≡ drive.old }
     ensures uncalled { down ≡ true → steps.new ≡ steps.old }
-    ensures step { steps.new ≤ steps.old + barrier_calls }
+    ensures unready { is_unready started task.old.command ≡ true → drive.new ≡ drive.old }
+    ensures calls { steps.new ≤ steps.old + calls_of_turn started task.old.command }
 {
     if down {
         return Ok(link_lost());
@@ -84,7 +86,7 @@ pub fn run_task<D: Drive<L>, L: Ledger>(
     let Some(alone) = Alone::of(&task.command) else {
         return Ok(not_ready());
     };
-    if alone.waits(started) {
+    if alone.is_not_ready(started) {
         return Ok(not_ready());
     }
     carry_out(alone, modes, wanted, task, pool, drive, steps)
@@ -126,7 +128,7 @@ fn carry_out<D: Drive<L>, L: Ledger>(
     ensures task { task.new ≡ record task.old { body = task.new.body } }
     ensures size { length task.new.body ≡ length task.old.body }
     ensures pool { pool.new ≡ pool.old }
-    ensures step { steps.new ≤ steps.old + barrier_calls }
+    ensures calls { steps.new ≤ steps.old + calls_alone alone }
 {
     match alone {
         Alone::Flush => flush(drive, steps)?,

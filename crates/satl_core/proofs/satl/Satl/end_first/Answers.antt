@@ -1,4 +1,4 @@
-use Rattle.std.proofs.Common.{◌≡◌, ◌≤◌, inl, inr, arith, refl, sym, ap, subst, ◌∙◌, [], ◌∷◌, ◌++◌, Some, length, map}
+use Rattle.std.proofs.Common.{◌≡◌, ◌≤◌, ◌+◌, inl, inr, arith, refl, sym, ap, subst, ◌∙◌, [], ◌∷◌, ◌++◌, Some, length, map, true, false}
 use Rattle.std.proofs.lemmas.List.{length-append, length-map}
 use Rattle.std.specs.List.{AllByRecursion}
 use Rattle.satl_base.specs.declared.reply.Reply.{Reply}
@@ -8,12 +8,14 @@ use Rattle.satl_direct.specs.Tasks.{task_of}
 use Rattle.satl_direct.specs.Valid.{AreOwn}
 use Rattle.satl_direct.proofs.Naming.{none_of_each, own_first}
 use Rattle.satl_core.specs.declared.turning.Ending.TheVariants as endings
+use Rattle.satl_core.specs.Calling.{calls_of_first, calls_of_turn, is_first_unready, is_unready}
 use Rattle.satl_core.specs.Flushed.{IsFlushed}
 use Rattle.satl_core.specs.Layer.{IsKept, IsTask, Layer, Tied, view}
 use Rattle.satl_core.specs.Refilling.{EndsOne}
 use Rattle.satl_core.specs.Turning.{data_in, ended_reply, lost_replies, task_on}
 use Rattle.satl_core.proofs.AgreeingLemmas.{alone_down, capacity_is, tied_lost}
 use Rattle.satl_core.proofs.ArrivalLemmas.{held_by_is}
+use Rattle.satl_core.proofs.CallingLemmas.{few_first, first_turn, first_unready, unready_stays, unready_stopped}
 use Rattle.satl_core.proofs.MediumLemmas.{can_carry}
 use Rattle.satl_core.proofs.CountedLemmas.{few_tasks, kept_rose, kept_same}
 use Rattle.satl_core.proofs.DeviceLemmas.{first_tasks, seen}
@@ -37,6 +39,18 @@ is_first g c = first_of c.self.inside.queue.tasks c.remove.new.self.tasks c.entr
 
 both_kept : (g : given.Over) (c : After-entry_mut-task g) → IsKeptEntry c.self.inside.identity c.entry_mut-task.result.now × AllByRecursion (IsKept c.self.inside.identity) c.remove.new.self.tasks
 both_kept g c = first_kept c.self.inside.identity c.self.inside.queue.tasks c.remove.new.self.tasks c.entry_mut-task.result.now c.self.invariant.kept (is_first g c)
+
+-- whether it is refused on a stopped unit, and how many drive calls it takes
+is_refused : (g : given.Over) (c : After-entry_mut-task g) → is_first_unready c.args.self.now.started c.args.self.now.tasks ≡ true → is_unready c.self.inside.started c.entry_mut-task.result.now.command ≡ true
+is_refused g c unready =
+    let i = c.self.inside in
+    sym (first_unready i.started i.queue.tasks c.remove.new.self.tasks c.entry_mut-task.result.now (is_first g c)) ∙ subst (λ (l : Layer). is_first_unready l.started l.tasks ≡ true) (sym c.self.view_is) unready
+
+calls_are : (g : given.Over) (c : After-entry_mut-task g) → calls_of_turn c.self.inside.started c.entry_mut-task.result.now.command ≡ calls_of_first c.args.self.now.started c.args.self.now.tasks
+calls_are g c =
+    let i = c.self.inside in
+    subst (λ (l : Layer). calls_of_turn i.started c.entry_mut-task.result.now.command ≡ calls_of_first l.started l.tasks) c.self.view_is
+    (sym (first_turn i.started i.queue.tasks c.remove.new.self.tasks c.entry_mut-task.result.now (is_first g c)))
 
 pub run_task-requires-clause-free : goal.run_task-requires-clause-free
 run_task-requires-clause-free g c =
@@ -238,3 +252,35 @@ returns-in-Err-clause-room g c =
     let one = pushed c.args.replies.now c.push-in-Err.new.self c.end_task-in-Err.result c.push-in-Err.ensures in
     let all = ap length c.lose.ensures.answers ∙ length-append c.push-in-Err.new.self (lost_replies c.self.inside.modes.d_sense c.remove.new.self.tasks) in
     omega (arith, all, one, count, length-map c.remove.new.self.tasks (λ (h : Held). ended_reply h.entry (endings.Check link_lost) c.self.inside.modes.d_sense), ap length c.requires.empty, ap (λ (l : Layer). length l.tasks) c.lose.ensures.stays, ap (λ (l : Layer). length l.tasks) c.self.view_is, c.requires.few)
+
+pub returns-in-Ok-clause-unready : goal.returns-in-Ok-clause-unready
+returns-in-Ok-clause-unready g c = λ unready.
+    let i = c.self.inside in
+    let command = c.entry_mut-task.result.now.command in
+    let refused = is_refused g (goal.at.returns-in-Ok-clause-unready g c).After-entry_mut-task unready in
+    (c.run_task.ensures.unready refused, c.started_after-self-inside.ensures ∙ (unready_stays command c.in-Ok.ending i.started refused ∙ unready_stopped i.started command refused))
+
+pub returns-in-Ok-clause-first_calls : goal.returns-in-Ok-clause-first_calls
+returns-in-Ok-clause-first_calls g c =
+    subst (λ n. c.run_task.new.steps ≤ c.args.steps.now + n) (calls_are g (goal.at.returns-in-Ok-clause-first_calls g c).After-entry_mut-task) c.run_task.ensures.calls
+
+pub returns-in-Ok-clause-steps : goal.returns-in-Ok-clause-steps
+returns-in-Ok-clause-steps g c =
+    let same = calls_are g (goal.at.returns-in-Ok-clause-steps g c).After-entry_mut-task in
+    omega (arith, same, c.run_task.ensures.calls, few_first c.args.self.now.started c.args.self.now.tasks)
+
+pub returns-in-Err-clause-unready : goal.returns-in-Err-clause-unready
+returns-in-Err-clause-unready g c = λ unready.
+    let i = c.self.inside in
+    let command = c.entry_mut-task.result.now.command in
+    let refused = is_refused g (goal.at.returns-in-Err-clause-unready g c).After-entry_mut-task unready in
+    (c.run_task.ensures.unready refused, ap (λ (l : Layer). l.started) c.lose.ensures.stays ∙ unready_stopped i.started command refused)
+
+pub returns-in-Err-clause-first_calls : goal.returns-in-Err-clause-first_calls
+returns-in-Err-clause-first_calls g c =
+    subst (λ n. c.run_task.new.steps ≤ c.args.steps.now + n) (calls_are g (goal.at.returns-in-Err-clause-first_calls g c).After-entry_mut-task) c.run_task.ensures.calls
+
+pub returns-in-Err-clause-steps : goal.returns-in-Err-clause-steps
+returns-in-Err-clause-steps g c =
+    let same = calls_are g (goal.at.returns-in-Err-clause-steps g c).After-entry_mut-task in
+    omega (arith, same, c.run_task.ensures.calls, few_first c.args.self.now.started c.args.self.now.tasks)
