@@ -1,5 +1,5 @@
 -- What was read shows why the bytes are refused, and no more was taken.
-use Rattle.std.proofs.Common.{◌≡◌, ℕ, ◌+◌, ◌<◌, ◌≤◌, Bool, true, false, not, ◌==◌, nat_lt, List, [], ◌∷◌, ◌++◌, length, take, drop, slice_index, Option, Some, None, IfSome, refl, ◌∙◌, ap, sym, subst, arith, inl, inr, cond, append_assoc}
+use Rattle.std.proofs.Common.{◌≡◌, ◌⊎◌, ℕ, ◌+◌, ◌<◌, ◌≤◌, Bool, true, false, not, ◌==◌, nat_lt, List, [], ◌∷◌, ◌++◌, length, take, drop, slice_index, Option, Some, None, IfSome, refl, ◌∙◌, ap, sym, subst, arith, inl, inr, cond, append_assoc}
 use Rattle.std.proofs.lemmas.List.{length-append, length-take-le, append-nil, take_at, take_all, drop_at}
 use Rattle.std.proofs.Math.ListN.{get_or-append}
 use Rattle.std.proofs.Math.Seq.{take-append-add}
@@ -15,7 +15,7 @@ use Rattle.satl_frame.specs.Frames.{frame_rows, has_code, allows, kind, payload_
 use Rattle.satl_frame.specs.Magic.{magic, magic_fault, names_version, version_code, version_of}
 use Rattle.satl_frame.specs.Faults.{told_length, has_bad_field, head_fault, frame_fault}
 use Rattle.satl_frame.specs.Pulls.{Lacks, FewerThan, TookPayload, TookBadField}
-use Rattle.satl_frame.specs.Reading.{Reading, Blames, at_offset, where_refused, asked, asked_of_frame}
+use Rattle.satl_frame.specs.Reading.{AwaitsNoMore, Reading, Blames, at_offset, where_refused, asked, asked_of_frame}
 use Rattle.satl_frame.specs.Steps.{Began, BlamesMagic, BlamesAt, BlamesPayload, StoodAt, head_in}
 use Rattle.satl_frame.specs.declared.frames.Version.{Version}
 use Rattle.satl_frame.specs.declared.frames.Version.TheVariants.{One, Two}
@@ -286,3 +286,49 @@ frame_blames old place a b c e began blames = by_place old.limit old.newest old.
         let offset : o ≡ 8 = blames.0 ∙ is in
         subst (λ (xs : List ℕ). (where_refused limit newest None xs ≡ Some (r, o)) × Took (Some xs) c (take (asked limit newest None xs) xs)) (sym took.known)
         (all.0 ∙ ap (λ (k : ℕ). Some (r, k)) (sym offset), all.1)
+
+-- ---- what was waited for where bytes are refused
+
+-- where nothing was waited for
+unawaited : (waited : Bool) (left : Option (List ℕ)) (reason : Reason) (offset : ℕ) → waited ≡ false → AwaitsNoMore waited left (Bad reason offset)
+unawaited waited left BadMagic offset w = inl w
+unawaited waited left BadKind offset w = inl w
+unawaited waited left BadLength offset w = w
+unawaited waited left BadField offset w = w
+unawaited waited left TooLong offset w = w
+unawaited waited left Truncated offset w = tt
+
+-- a head of which fewer bytes stand there is cut short, or its kind is bad
+short_awaits : (waited : Bool) (left : Option (List ℕ)) (offset : ℕ) (none unknown few : Bool) (later : Option Reason) (r : Reason) → few ≡ true →
+    cond none (Some Truncated) (cond unknown (Some BadKind) (cond few (Some Truncated) later)) ≡ Some r → IsAtEnd left → AwaitsNoMore waited left (Bad r offset)
+short_awaits waited left offset true unknown few later r e is ends = let same : Truncated ≡ r = cc in subst (λ x. AwaitsNoMore waited left (Bad x offset)) same tt
+short_awaits waited left offset false true few later r e is ends = let same : BadKind ≡ r = cc in subst (λ x. AwaitsNoMore waited left (Bad x offset)) same (inr ends)
+short_awaits waited left offset false false true later r e is ends = let same : Truncated ≡ r = cc in subst (λ x. AwaitsNoMore waited left (Bad x offset)) same tt
+short_awaits waited left offset false false false later r e is ends = cc
+
+-- a refused head was whole, or the source is at its end
+pub head_awaits : (version : Version) (limit offset : ℕ) (waited : Bool) (left : Option (List ℕ)) (buf : List ℕ) (n : ℕ) (r : Reason) → length buf ≡ 5 → n ≤ length buf →
+    (0 < n → n ≡ length buf → waited ≡ false) → (n < length buf → IsAtEnd left) → Some r ≡ head_fault version limit offset (take n buf) → AwaitsNoMore waited left (Bad r offset)
+head_awaits version limit offset waited left buf n r five within unwaited ends f =
+    let count : length (take n buf) ≡ n = length-take-le n buf within in
+    elim (cases_lt n 5) [
+      | inl l ↦ short_awaits waited left offset _ _ _ _ r (lt-ltb (length (take n buf)) 5 (omega (arith, count))) (sym f) (ends (omega (arith, five)))
+      | inr g ↦ unawaited waited left r offset (unwaited (omega arith) (omega arith))
+    ]
+
+-- a magic is cut short, or a bad one
+magic_reasons : (waited : Bool) (left : Option (List ℕ)) (offset : ℕ) (other few unknown : Bool) (r : Reason) →
+    cond other (Some BadMagic) (cond few (Some Truncated) (cond unknown (Some BadMagic) None)) ≡ Some r → (waited ≡ false) ⊎ IsAtEnd left → AwaitsNoMore waited left (Bad r offset)
+magic_reasons waited left offset true few unknown r is either = let same : BadMagic ≡ r = cc in subst (λ x. AwaitsNoMore waited left (Bad x offset)) same either
+magic_reasons waited left offset false true unknown r is either = let same : Truncated ≡ r = cc in subst (λ x. AwaitsNoMore waited left (Bad x offset)) same tt
+magic_reasons waited left offset false false true r is either = let same : BadMagic ≡ r = cc in subst (λ x. AwaitsNoMore waited left (Bad x offset)) same either
+magic_reasons waited left offset false false false r is either = cc
+
+-- a refused magic was whole, or the source is at its end
+pub magic_awaits : (newest : Version) (offset : ℕ) (waited : Bool) (left : Option (List ℕ)) (buf : List ℕ) (n : ℕ) (r : Reason) → length buf ≡ 8 → n ≤ length buf →
+    (0 < n → n ≡ length buf → waited ≡ false) → (n < length buf → IsAtEnd left) → Some r ≡ magic_fault newest (take n buf) → AwaitsNoMore waited left (Bad r offset)
+magic_awaits newest offset waited left buf n r eight within unwaited ends f =
+    magic_reasons waited left offset _ _ _ r (sym f) (elim (cases_lt n 8) [
+      | inl l ↦ inr (ends (omega (arith, eight)))
+      | inr g ↦ inl (unwaited (omega arith) (omega arith))
+    ])

@@ -1,6 +1,7 @@
 -- What a reader of frames gives, and what it takes from its source (profile).
-use Rattle.std.specs.Prelude.{ℕ, ◌+◌, ◌≤◌, ◌≡◌, true, if◌then◌else◌, is_some, List, [], ◌++◌, length, take, drop, IfSome, IsErrOf, Option, Some, None}
+use Rattle.std.specs.Prelude.{ℕ, ◌+◌, ◌≤◌, ◌≡◌, ◌⊎◌, Bool, true, false, if◌then◌else◌, is_some, List, [], ◌++◌, length, take, drop, IfSome, IsErrOf, Option, Some, None}
 use Rattle.std.specs.declared.result.Result.{Result}
+use Rattle.std.specs.Io.KnownBytes.{IsAtEnd}
 use Rattle.std.specs.Option.{option_map, option_or}
 use Rattle.satl_io.specs.Causes.{Rose}
 use Rattle.satl_io.specs.Known.{Took}
@@ -12,6 +13,7 @@ use Rattle.satl_frame.specs.declared.frames.Version.{Version}
 use Rattle.satl_frame.specs.declared.frames.Frame.{Frame}
 use Rattle.satl_frame.specs.declared.frames.Place.{Place}
 use Rattle.satl_frame.specs.declared.frames.Reason.{Reason}
+use Rattle.satl_frame.specs.declared.frames.Reason.TheVariants.{BadMagic, BadKind, BadLength, BadField, Truncated, TooLong}
 use Rattle.satl_frame.specs.declared.frames.FrameFault.{FrameFault}
 use Rattle.satl_frame.specs.declared.frames.FrameFault.TheVariants.{Bad, ReadFault}
 
@@ -78,3 +80,15 @@ Blames old left left' ReadFault = FewerThan left left' (asked old.limit old.newe
 pub record ReadCauses {T : Type 0} (before now : ℕ) (result : Result T FrameFault) : Type 0 where
   pub later : before ≤ now
   pub failed : IsErrOf result ReadFault → Rose before now
+
+-- a refusal has waited for no byte behind those that were taken or, where the magic or a kind is bad, none is left to take, as
+-- where fewer stand there than are asked for. Where bytes are cut short they have ended, and of a failed read nothing is said
+-- (profile)
+abbrev pub AwaitsNoMore : Bool → Option (List ℕ) → FrameFault → Type 0
+AwaitsNoMore waited left (Bad BadMagic offset) = (waited ≡ false) ⊎ IsAtEnd left
+AwaitsNoMore waited left (Bad BadKind offset) = (waited ≡ false) ⊎ IsAtEnd left
+AwaitsNoMore waited left (Bad BadLength offset) = waited ≡ false
+AwaitsNoMore waited left (Bad BadField offset) = waited ≡ false
+AwaitsNoMore waited left (Bad TooLong offset) = waited ≡ false
+AwaitsNoMore waited left (Bad Truncated offset) = Unit {0}
+AwaitsNoMore waited left ReadFault = Unit {0}

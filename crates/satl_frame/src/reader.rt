@@ -5,7 +5,7 @@ ghost use Rattle.satl_frame.specs.declared.frames.Frame.TheVariants as frames;
 ghost use Rattle.satl_frame.specs.Faults.{told_length};
 ghost use Rattle.satl_frame.specs.Frames.{frame_rows, has_code, allows};
 ghost use Rattle.satl_frame.specs.Pulls.{PullCauses, StaysUnwaited, Stopped, TookPayload, TookRest, TookBadField, asked_pages, found_pages, frame_pages, given_pages, head_of_request, request_pages};
-ghost use Rattle.satl_frame.specs.Reading.{Reading, Gave, Blames, ReadCauses};
+ghost use Rattle.satl_frame.specs.Reading.{AwaitsNoMore, Reading, Gave, Blames, ReadCauses};
 ghost use Rattle.satl_frame.specs.Steps.{Began, BlamesMagic, StoodAt, BlamesAt, BlamesPayload, head_in};
 
 use crate::frames::{
@@ -153,6 +153,8 @@ fn read_payload<'a, S: Source, P: Lender>(
     ensures stays { StaysUnwaited (S.waited source.old) (S.waited source.new) result }
     ensures fault { IfErr result
         (BlamesPayload (head_in place.version head.now) place.offset (S.left source.old) (S.left source.new)) }
+    ensures awaits { IfErr result (λ e. S.waited source.old ≡ false →
+        AwaitsNoMore (S.waited source.new) (S.left source.new) e) }
     ensures causes { ReadCauses (S.faults source.old) (S.faults source.new) result }
     ensures lent { HasLent (given_pages frame_pages result) (P.stock lender.old) (P.stock lender.new) }
 {
@@ -192,6 +194,7 @@ fn read_frame<'a, S: Source, P: Lender>(
         (record { place = record place { offset = x.1 }; left = S.left source.new }) (P.stock lender.old).free x.0) }
     ensures unwaited { IfOk result (λ _. S.waited source.new ≡ false) }
     ensures fault { IfErr result (BlamesAt limit place (S.left source.old) (S.left source.new)) }
+    ensures awaits { IfErr result (AwaitsNoMore (S.waited source.new) (S.left source.new)) }
     ensures causes { ReadCauses (S.faults source.old) (S.faults source.new) result }
     ensures lent { HasLent (given_pages (λ x. frame_pages x.0) result) (P.stock lender.old) (P.stock lender.new) }
 {
@@ -217,6 +220,7 @@ fn read_frame<'a, S: Source, P: Lender>(
 fn read_magic<S: Source>(source: &mut S, newest: Version) -> Result<Place, FrameFault>
     ensures began { IfOk result (Began newest None (S.left source.old) (S.left source.new)) }
     ensures fault { IfErr result (BlamesMagic newest (S.left source.old) (S.left source.new)) }
+    ensures awaits { IfErr result (AwaitsNoMore (S.waited source.new) (S.left source.new)) }
     ensures causes { ReadCauses (S.faults source.old) (S.faults source.new) result }
 {
     let mut front = [0; MAGIC_SIZE];
@@ -242,6 +246,7 @@ fn begin<S: Source>(
 ) -> Result<Place, FrameFault>
     ensures began { IfOk result (Began newest place (S.left source.old) (S.left source.new)) }
     ensures fault { IfErr result (λ e. (place ≡ None) × BlamesMagic newest (S.left source.old) (S.left source.new) e) }
+    ensures awaits { IfErr result (AwaitsNoMore (S.waited source.new) (S.left source.new)) }
     ensures causes { ReadCauses (S.faults source.old) (S.faults source.new) result }
 {
     match place {
@@ -310,6 +315,7 @@ impl FrameReader {
         ensures gave { IfOk result (λ f. Gave self.old (P.stock lender.old).free f self.new (S.left source.old) (S.left source.new)) }
         ensures unwaited { IfOk result (λ _. S.waited source.new ≡ false) }
         ensures blames { IfErr result (λ e. Blames self.old (S.left source.old) (S.left source.new) e × (self.new ≡ self.old)) }
+        ensures awaits { IfErr result (AwaitsNoMore (S.waited source.new) (S.left source.new)) }
         ensures causes { ReadCauses (S.faults source.old) (S.faults source.new) result }
         ensures lent { HasLent (given_pages frame_pages result) (P.stock lender.old) (P.stock lender.new) }
     {
@@ -329,7 +335,8 @@ impl FrameReader {
     /// The next frame, and before the first one the magic (profile). Exactly its bytes are taken from the source, and none
     /// behind them is waited for. Its order bytes stay in the room. Its data-out stands in the first pages that the lender has
     /// free: bytes that do not fit are taken and dropped, and `data_len` is the length of all. `Bad` says why and where the
-    /// input is refused; `ReadFault` that a read failed. Either is answered again from then on, and nothing more is read.
+    /// input is refused, and waits for no byte behind those that show it, but for the end where fewer stand there than are
+    /// asked for; `ReadFault` that a read failed. Either is answered again from then on, and nothing more is read.
     pub fn next<'a, S: Source, P: Lender>(
         &mut self,
         source: &mut S,
@@ -345,6 +352,7 @@ impl FrameReader {
         ensures repeats { IfSome self.old.refused
             (λ fault. (result ≡ Err fault) × (self.new ≡ self.old) × (source.new ≡ source.old)) }
         ensures blames { self.old.refused ≡ None → IfErr result (Blames self.old (S.left source.old) (S.left source.new)) }
+        ensures awaits { self.old.refused ≡ None → IfErr result (AwaitsNoMore (S.waited source.new) (S.left source.new)) }
         ensures keeps { IfErr result (λ fault. self.new ≡ record self.old { refused = Some fault }) }
         ensures causes { self.old.refused ≡ None → ReadCauses (S.faults source.old) (S.faults source.new) result }
 

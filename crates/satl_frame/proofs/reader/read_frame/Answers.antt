@@ -1,7 +1,7 @@
 use Rattle.std.proofs.Common.{◌≡◌, ◌+◌, refl, sym, ap, ◌∙◌, drop, arith}
 use Rattle.byteorder.specs.Endian.{big_bytes}
 use Rattle.satl_frame.specs.Faults.{told_length}
-use Rattle.satl_frame.proofs.Refusals.{head_stopped, head_refused, payload_refused, frame_stood, head_read}
+use Rattle.satl_frame.proofs.Refusals.{head_awaits, head_stopped, head_refused, payload_refused, frame_stood, head_read}
 use Rattle.satl_frame.proofs.reader.read_frame.Goals as goal
 
 pub read_payload-requires-clause-allowed : goal.read_payload-requires-clause-allowed
@@ -29,3 +29,8 @@ returns-in-Err-read_payload-clause-fault g c =
 
 pub returns-in-Err-clause-fault : goal.returns-in-Err-clause-fault
 returns-in-Err-clause-fault g c = head_stopped c.args.limit c.args.place _ _ c.in-Err.ensures.stopped
+
+pub returns-in-Some-clause-awaits : goal.returns-in-Some-clause-awaits
+returns-in-Some-clause-awaits g c =
+    let known = c.in-Ok.ensures in
+    head_awaits c.args.place.version c.args.limit c.args.place.offset _ _ c.fill.new.buf c.in-Ok.count _ c.fill.auto.buf known.bound.0 (λ some all. known.unwaited some (omega (arith, all, c.fill.auto.buf))) known.short c.in-Some.ensures
