@@ -8,7 +8,7 @@ use Rattle.satl_base.proofs.ListsLemmas.{how_many-push}
 use Rattle.satl_frame.specs.Frames.{HasExpected, IsFrame, IsRequest, data_out, spelled}
 use Rattle.satl_frame.specs.Output.{Answer}
 use Rattle.satl_frame.specs.Pulls.{cut_to, frame_pages}
-use Rattle.satl_frame.specs.Reading.{Blames, Gave, IsNext, Reading}
+use Rattle.satl_frame.specs.Reading.{AwaitsNoMore, Blames, Gave, IsNext, Reading}
 use Rattle.satl_frame.specs.declared.frames.Place.{Place}
 use Rattle.satl_frame.specs.declared.frames.Version.{Version}
 use Rattle.satl_frame.specs.declared.frames.Version.TheVariants.{One, Two}
@@ -149,14 +149,15 @@ module _ {T : Type 0} (told : T → Answer → List ℕ) (behind : T → Answer 
       }
 
   -- what follows was refused or not read
-  pub refused : (a b : LoopState T) (n : ℕ) (reader : Reading) (left : Option (List ℕ)) (waited : Bool) (why : FrameFault) → Going told behind a b n → Blames b.reader b.left left why → reader ≡ record b.reader { refused = Some why } → Refused told behind a (record b { reader = reader; left = left; waited = waited }) why
+  pub refused : (a b : LoopState T) (n : ℕ) (reader : Reading) (left : Option (List ℕ)) (waited : Bool) (why : FrameFault) → Going told behind a b n → Blames b.reader b.left left why → AwaitsNoMore waited left why → reader ≡ record b.reader { refused = Some why } → Refused told behind a (record b { reader = reader; left = left; waited = waited }) why
   unfolding unseen
-  refused a b n reader left waited why going blames repeats = record {
+  refused a b n reader left waited why going blames awaits repeats = record {
     reader = b.reader;
     mid = b.left;
     requests = n;
     going = unseen a b n waited going;
     blames = blames;
+    awaits = awaits;
     repeats = repeats;
   }
 

@@ -9,7 +9,7 @@ use Rattle.satl_frame.specs.declared.frames.FrameFault.TheVariants.{Bad, ReadFau
 use Rattle.satl_frame.specs.Inputs.{NoneEnds}
 use Rattle.satl_frame.specs.Output.{Answer}
 use Rattle.satl_frame.specs.Progress.{HasRead}
-use Rattle.satl_frame.specs.Reading.{Blames, Reading}
+use Rattle.satl_frame.specs.Reading.{AwaitsNoMore, Blames, Reading}
 use Rattle.satl_direct.specs.Run.{joined}
 use Rattle.satl_step.specs.declared.frames_loop.Stop.{Stop}
 use Rattle.satl_step.specs.declared.frames_loop.Stop.TheVariants as stops
@@ -68,8 +68,8 @@ pub record ReachedEnd {T : Type 0} (told : T → Answer → List ℕ) (behind : 
   pub ends : so_far.events ≡ earlier ++ frames.End ∷ []
   pub unwaited : after.waited ≡ false
 
--- frames were carried out, none of which is END, and what follows them was refused or not read, which the reader repeats from
--- then on (profile)
+-- frames were carried out, none of which is END, and what follows them was refused, and nothing behind that was waited for, or
+-- not read, which the reader repeats from then on (profile)
 pub record Refused {T : Type 0} (told : T → Answer → List ℕ) (behind : T → Answer → T) (before after : LoopState T)
     (why : FrameFault) : Type 0 where
   pub reader : Reading
@@ -77,6 +77,7 @@ pub record Refused {T : Type 0} (told : T → Answer → List ℕ) (behind : T �
   pub requests : ℕ
   pub going : Going told behind before (record after { reader = reader; left = mid }) requests
   pub blames : Blames reader mid after.left why
+  pub awaits : AwaitsNoMore after.waited after.left why
   pub repeats : after.reader ≡ record reader { refused = Some why }
 
 -- frames were carried out, none of which is END, and their answers were told; then one frame more was read, which was carried

@@ -1,9 +1,11 @@
 -- What has to hold before an event, what holds behind it, and how a call that may fail in a write ends (profile).
 use Rattle.std.specs.Prelude.{◌≡◌, List, [], OnErr, OnOk, Result}
+use Rattle.std.specs.List.{AllByRecursion}
 use Rattle.satl_base.specs.declared.reply.Reply.{Reply}
 use Rattle.satl_frame.specs.declared.frames.Frame.{Frame}
+use Rattle.satl_frame.specs.Output.{IsWritable}
 use Rattle.satl_drive.specs.State.{DriveState}
-use Rattle.satl_core.specs.Layer.{Layer, Tied}
+use Rattle.satl_core.specs.Layer.{Layer, Tied, reply_pages}
 use Rattle.satl_step.specs.Events.{CanTake}
 
 -- a layer can serve an event on its drive, with the replies that wait to be told (profile)
@@ -23,6 +25,10 @@ pub record Leaves {X E : Type 0} (l : Layer) (d : DriveState) (waiting : List Re
   pub all_in : OnOk result (l.out ≡ 0)
   -- and no reply waits
   pub none : OnOk result (waiting ≡ [])
+  -- where one failed, the pages that are out are those of the replies that still wait
+  pub kept : OnErr result (l.out ≡ reply_pages waiting)
+  -- and each of these can be written
+  pub writable : OnErr result (AllByRecursion IsWritable waiting)
 
 -- a call took what was before to what is behind it: as the first relation says where it succeeded, and as the second says where
 -- a write failed (profile)

@@ -13,7 +13,7 @@ use satl_core::Satl;
 use satl_frame::WriteFault;
 use satl_io::Sink;
 
-/// Tells the replies in order, and takes their pages back.
+/// Tells the replies in order, and takes their pages back. Where a write fails, those that are not told stay as they were.
 pub fn tell_replies<T: Teller, K: Sink>(
     satl: &mut Satl,
     teller: &mut T,
@@ -25,6 +25,8 @@ pub fn tell_replies<T: Teller, K: Sink>(
     ensures stays { satl.new ≡ record satl.old { free = satl.new.free; out = satl.new.out } }
     ensures all_in { OnOk result (satl.new.out ≡ 0) }
     ensures none { OnOk result (replies.new ≡ []) }
+    ensures kept { OnErr result (satl.new.out ≡ reply_pages replies.new) }
+    ensures writable { OnErr result (AllByRecursion IsWritable replies.new) }
     ensures told { OnOk result (IsTold T.told T.behind (record { teller = teller.old; written = K.written sink.old })
         (record { teller = teller.new; written = K.written sink.new }) (map replied replies.old)) }
     ensures part { OnErr result (IsToldInPart T.told T.behind (record { teller = teller.old; written = K.written sink.old })

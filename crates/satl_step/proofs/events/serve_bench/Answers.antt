@@ -22,4 +22,6 @@ returns-clause-leaves g c = record {
   tied = tied_same c.bench.new.self c.tell_replies.new.satl (g.D.Drive.state c.bench.new.drive) c.tell_replies.ensures.stays c.bench.ensures.tied;
   all_in = c.tell_replies.ensures.all_in;
   none = c.tell_replies.ensures.none;
+  kept = c.tell_replies.ensures.kept;
+  writable = c.tell_replies.ensures.writable;
 }

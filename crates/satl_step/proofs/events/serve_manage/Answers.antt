@@ -6,7 +6,7 @@ use Rattle.satl_direct.specs.Run.{Manages, MayLose}
 use Rattle.satl_core.specs.Layer.{view}
 use Rattle.satl_frame.specs.declared.frames.Frame.TheVariants as frames
 use Rattle.satl_step.proofs.EventLemmas.{manage_before, manage_done, manage_in_part}
-use Rattle.satl_step.proofs.ServingLemmas.{ends_in_part, leaves_all, leaves_tied}
+use Rattle.satl_step.proofs.ServingLemmas.{ends_in_part, leaves_all, leaves_some}
 use Rattle.satl_step.proofs.TallyLemmas.{depth_covered, tallied, tied_same, view_same}
 use Rattle.satl_step.proofs.events.serve_manage.Goals as goal
 
@@ -14,7 +14,7 @@ pub returns-clause-leaves : goal.returns-clause-leaves
 returns-clause-leaves g c = leaves_all _ _ _ c.tell_managed.result (tied_same c.manage-response.new.self c.tell_replies.new.satl (g.D.Drive.state c.manage-response.new.drive) c.tell_replies.ensures.stays c.manage-response.ensures.tied) c.in_ok-tell_replies.ensures.all_in c.in_ok-tell_replies.ensures.none
 
 pub returns-in_err-tell_replies-clause-leaves : goal.returns-in_err-tell_replies-clause-leaves
-returns-in_err-tell_replies-clause-leaves g c = leaves_tied _ _ _ c.from_residual.result _ c.from_residual.ensures.1 (tied_same c.manage-response.new.self c.tell_replies.new.satl (g.D.Drive.state c.manage-response.new.drive) c.tell_replies.ensures.stays c.manage-response.ensures.tied)
+returns-in_err-tell_replies-clause-leaves g c = leaves_some _ _ _ c.from_residual.result _ c.from_residual.ensures.1 (tied_same c.manage-response.new.self c.tell_replies.new.satl (g.D.Drive.state c.manage-response.new.drive) c.tell_replies.ensures.stays c.manage-response.ensures.tied) c.in_err-tell_replies.ensures.kept c.in_err-tell_replies.ensures.writable
 
 pub returns-clause-done : goal.returns-clause-done
 returns-clause-done g c =

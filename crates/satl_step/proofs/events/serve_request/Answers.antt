@@ -23,4 +23,6 @@ returns-clause-leaves g c = record {
   tied = tied_same c.submit.new.self c.tell_replies.new.satl (g.D.Drive.state c.submit.new.drive) c.tell_replies.ensures.stays c.submit.ensures.tied;
   all_in = c.tell_replies.ensures.all_in;
   none = c.tell_replies.ensures.none;
+  kept = c.tell_replies.ensures.kept;
+  writable = c.tell_replies.ensures.writable;
 }

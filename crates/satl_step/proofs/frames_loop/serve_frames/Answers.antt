@@ -75,7 +75,7 @@ returns-in-Err-clause-ran g c =
       ended = tt;
       stopped = refused g.T.Teller.told g.T.Teller.behind (loop_state c.args.reader.now (g.S.Source.left c.args.source.now) (g.S.Source.waited c.args.source.now) (scene_of c.args.satl.now (g.D.Drive.state c.args.drive.now) c.args.steps.now c.args.teller.now (g.K.Sink.written c.args.sink.now))) (loop_state c.frames.reader (g.S.Source.left c.frames.source) (g.S.Source.waited c.frames.source) (scene_of c.next.new.lender (g.D.Drive.state c.frames.drive) c.frames.steps c.frames.teller (g.K.Sink.written c.frames.sink))) c.frames.requests c.next.new.self (g.S.Source.left c.next.new.source) (g.S.Source.waited c.next.new.source) c.in-Err.fault
           (lent g.T.Teller.told g.T.Teller.behind (loop_state c.args.reader.now (g.S.Source.left c.args.source.now) (g.S.Source.waited c.args.source.now) (scene_of c.args.satl.now (g.D.Drive.state c.args.drive.now) c.args.steps.now c.args.teller.now (g.K.Sink.written c.args.sink.now))) (loop_state c.frames.reader (g.S.Source.left c.frames.source) (g.S.Source.waited c.frames.source) (scene_of c.frames.satl (g.D.Drive.state c.frames.drive) c.frames.steps c.frames.teller (g.K.Sink.written c.frames.sink))) (view c.next.new.lender (g.D.Drive.state c.frames.drive)) c.frames.requests same c.frames.invariant.going)
-          (c.in-Err.ensures.blames c.frames.invariant.fresh) c.in-Err.ensures.keeps;
+          (c.in-Err.ensures.blames c.frames.invariant.fresh) (c.in-Err.ensures.awaits c.frames.invariant.fresh) c.in-Err.ensures.keeps;
     }
 
 pub returns-in-Err-clause-tied : goal.returns-in-Err-clause-tied

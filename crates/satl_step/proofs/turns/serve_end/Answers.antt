@@ -2,7 +2,7 @@ use Rattle.std.proofs.Common.{refl}
 use Rattle.std.proofs.lemmas.Result.{on_err_weaker}
 use Rattle.satl_base.proofs.OutcomeLemmas.{on_both}
 use Rattle.satl_step.proofs.EventLemmas.{all_ended, end_cut, end_done, end_in_part}
-use Rattle.satl_step.proofs.ServingLemmas.{ends_in_part, leaves_all, leaves_tied}
+use Rattle.satl_step.proofs.ServingLemmas.{ends_in_part, leaves_all, leaves_some}
 use Rattle.satl_step.proofs.turns.serve_end.Goals as goal
 
 pub serve_turns-requires : goal.serve_turns-requires
@@ -23,4 +23,4 @@ pub returns-clause-leaves : goal.returns-clause-leaves
 returns-clause-leaves g c = leaves_all _ _ _ c.tell_end.result c.serve_turns.ensures.leaves.tied c.in_ok-serve_turns.ensures.leaves.all_in c.in_ok-serve_turns.ensures.leaves.none
 
 pub returns-in_err-serve_turns-clause-leaves : goal.returns-in_err-serve_turns-clause-leaves
-returns-in_err-serve_turns-clause-leaves g c = leaves_tied _ _ _ c.from_residual.result _ c.from_residual.ensures.1 c.serve_turns.ensures.leaves.tied
+returns-in_err-serve_turns-clause-leaves g c = leaves_some _ _ _ c.from_residual.result _ c.from_residual.ensures.1 c.serve_turns.ensures.leaves.tied c.in_err-serve_turns.ensures.leaves.kept c.in_err-serve_turns.ensures.leaves.writable

@@ -21,4 +21,6 @@ returns-clause-leaves g c = record {
   tied = tied_same c.turn.new.self c.tell_replies.new.satl (g.D.Drive.state c.turn.new.drive) c.tell_replies.ensures.stays c.turn.ensures.tied;
   all_in = c.tell_replies.ensures.all_in;
   none = c.tell_replies.ensures.none;
+  kept = c.tell_replies.ensures.kept;
+  writable = c.tell_replies.ensures.writable;
 }

@@ -1,7 +1,7 @@
 use Rattle.std.proofs.Common.{arith}
 use Rattle.satl_step.specs.Events.{scene_of}
 use Rattle.satl_step.proofs.EventLemmas.{turns_cut, turns_more, turns_none}
-use Rattle.satl_step.proofs.ServingLemmas.{ends_in_part, leaves_tied}
+use Rattle.satl_step.proofs.ServingLemmas.{ends_in_part, leaves_some}
 use Rattle.satl_step.proofs.turns.serve_turns.Goals as goal
 
 pub loop-init : goal.loop-init
@@ -31,4 +31,4 @@ pub returns-in_err-serve_turn-clause-turns : goal.returns-in_err-serve_turn-clau
 returns-in_err-serve_turn-clause-turns g c = ends_in_part _ _ _ _ c.from_residual.result _ c.from_residual.ensures.1 (turns_cut g.T.Teller.told g.T.Teller.behind c.loop.counter c.args.count _ _ _ (omega (arith, c.loop-test.true)) c.loop.invariant.turns c.in_err-serve_turn.ensures.turns.part)
 
 pub returns-in_err-serve_turn-clause-leaves : goal.returns-in_err-serve_turn-clause-leaves
-returns-in_err-serve_turn-clause-leaves g c = leaves_tied _ _ _ c.from_residual.result _ c.from_residual.ensures.1 c.serve_turn.ensures.leaves.tied
+returns-in_err-serve_turn-clause-leaves g c = leaves_some _ _ _ c.from_residual.result _ c.from_residual.ensures.1 c.serve_turn.ensures.leaves.tied c.in_err-serve_turn.ensures.leaves.kept c.in_err-serve_turn.ensures.leaves.writable

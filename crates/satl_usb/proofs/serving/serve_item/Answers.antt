@@ -3,7 +3,7 @@ use Rattle.std.proofs.lemmas.Result.{on_ok_weaker, on_err_weaker}
 use Rattle.satl_line.specs.Tasks.{entries_of}
 use Rattle.satl_direct.specs.Tasks.{task_of}
 use Rattle.satl_step.specs.Events.{scene_of}
-use Rattle.satl_step.proofs.ServingLemmas.{ends_in_part, leaves_tied}
+use Rattle.satl_step.proofs.ServingLemmas.{ends_in_part, leaves_some}
 use Rattle.satl_usb.proofs.ServingLemmas.{exchanged, first_fails, no_tasks, turn_ends}
 use Rattle.satl_usb.proofs.serving.serve_item.Goals as goal
 
@@ -18,7 +18,7 @@ returns-in_err-serve_event-clause-exchanged g c =
     (ap (λ t. map task_of (entries_of t)) c.requires.idle) c.in_err-serve_event.ensures.done.part)
 
 pub returns-in_err-serve_event-clause-leaves : goal.returns-in_err-serve_event-clause-leaves
-returns-in_err-serve_event-clause-leaves g c = leaves_tied _ _ _ c.from_residual.result _ c.from_residual.ensures.1 c.serve_event.ensures.leaves.tied
+returns-in_err-serve_event-clause-leaves g c = leaves_some _ _ _ c.from_residual.result _ c.from_residual.ensures.1 c.serve_event.ensures.leaves.tied c.in_err-serve_event.ensures.leaves.kept c.in_err-serve_event.ensures.leaves.writable
 
 pub returns-clause-exchanged : goal.returns-clause-exchanged
 returns-clause-exchanged g c =
