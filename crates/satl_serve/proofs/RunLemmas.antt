@@ -127,6 +127,7 @@ module _ {T : Type 0} (by : T → Answer → List ℕ) (behind : T → Answer �
         events = s.events;
         groups = s.groups;
         read = read_before form written a b why begins r;
+        awaits = r.awaits;
         wrote = Wrote-more (printed form written a b.scene.telling (joined s.groups) begins s.told_so) wrote;
         run = s.run;
       }
@@ -141,6 +142,7 @@ module _ {T : Type 0} (by : T → Answer → List ℕ) (behind : T → Answer �
         offset = offset;
         behind = b.scene.telling.written;
         read = read_before form written a b (Bad reason offset) begins r;
+        awaits = r.awaits;
         wrote = printed form written a b.scene.telling (joined s.groups) begins s.told_so;
         part = part;
         run = s.run;

@@ -86,12 +86,12 @@ module _ (s : Device) (old new : Tally) (same : new ≡ record old { calls = new
     sooner_whole r = record { events = r.events; groups = r.groups; place = r.place; read = r.read; unwaited = r.unwaited; wrote = r.wrote; run = sooner b.stand _ _ r.run; deep = r.deep }
 
     sooner_before : (why : FrameFault) → RanBefore form limit why (record { left = left; waited = waited; written = written; stand = record { device = s; tally = new } }) b → RanBefore form limit why (record { left = left; waited = waited; written = written; stand = record { device = s; tally = old } }) b
-    sooner_before why r = record { events = r.events; groups = r.groups; read = r.read; wrote = r.wrote; run = sooner b.stand _ _ r.run }
+    sooner_before why r = record { events = r.events; groups = r.groups; read = r.read; awaits = r.awaits; wrote = r.wrote; run = sooner b.stand _ _ r.run }
 
     sooner_part : RanInPart form limit (record { left = left; waited = waited; written = written; stand = record { device = s; tally = new } }) b → RanInPart form limit (record { left = left; waited = waited; written = written; stand = record { device = s; tally = old } }) b
     sooner_part (inl r) = inl (record { read = r.read; waits = r.waits; part = r.part; run = sooner b.stand [] [] r.run })
     sooner_part (inr (inl r)) = inr (inl (record { events = r.events; groups = r.groups; event = r.event; answers = r.answers; reader = r.reader; behind = r.behind; limit_is = r.limit_is; newest_is = r.newest_is; none_ends = r.none_ends; read = r.read; unwaited = r.unwaited; wrote = r.wrote; part = r.part; run = sooner_cut b.stand _ _ r.run }))
-    sooner_part (inr (inr r)) = inr (inr (record { events = r.events; groups = r.groups; reason = r.reason; offset = r.offset; behind = r.behind; read = r.read; wrote = r.wrote; part = r.part; run = sooner b.stand _ _ r.run }))
+    sooner_part (inr (inr r)) = inr (inr (record { events = r.events; groups = r.groups; reason = r.reason; offset = r.offset; behind = r.behind; read = r.read; awaits = r.awaits; wrote = r.wrote; part = r.part; run = sooner b.stand _ _ r.run }))
 
 -- ---- serving
 

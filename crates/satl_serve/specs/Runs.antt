@@ -14,7 +14,7 @@ use Rattle.satl_frame.specs.declared.frames.Version.TheVariants.{Two}
 use Rattle.satl_frame.specs.Inputs.{NoneEnds}
 use Rattle.satl_frame.specs.Output.{Answer}
 use Rattle.satl_frame.specs.Progress.{HasRead, ReadTo}
-use Rattle.satl_frame.specs.Reading.{Blames, Reading}
+use Rattle.satl_frame.specs.Reading.{AwaitsNoMore, Blames, Reading}
 use Rattle.satl_drive.specs.State.{DriveState, IsFit}
 use Rattle.satl_barrier.specs.Leaving.{TellsOf}
 use Rattle.satl_direct.specs.Device.{Device}
@@ -97,11 +97,12 @@ pub record RanWhole (form : Form) (limit : ℕ) (before after : Spot) : Type 0 w
   pub deep : run.deep ≤ after.stand.tally.deepest
 
 -- frames were read and carried out, none of which is END; the output of a run over these was written; and what follows was
--- refused or not read, which was told (profile)
+-- refused, and nothing behind that was waited for, or not read, which was told (profile)
 pub record RanBefore (form : Form) (limit : ℕ) (why : FrameFault) (before after : Spot) : Type 0 where
   pub events : List Frame
   pub groups : List (List Answer)
   pub read : ReadBefore Two limit before.left after.left events why
+  pub awaits : AwaitsNoMore after.waited after.left why
   pub wrote : Wrote before.written after.written (output form (joined groups) ++ told_of form why)
   pub run : RunSoFar before.stand after.stand events groups
 
@@ -132,7 +133,7 @@ pub record BrokeInAnswers (form : Form) (limit : ℕ) (before after : Spot) : Ty
   pub run : RunCutSoFar before.stand after.stand (events ++ event ∷ []) (groups ++ answers ∷ [])
 
 -- frames were read and carried out, none of which is END; the output of a run over these was written whole; and what follows
--- was refused, of which a front was told (profile)
+-- was refused, nothing behind that was waited for, and of what tells it a front was written (profile)
 pub record BrokeInFault (form : Form) (limit : ℕ) (before after : Spot) : Type 0 where
   pub events : List Frame
   pub groups : List (List Answer)
@@ -140,6 +141,7 @@ pub record BrokeInFault (form : Form) (limit : ℕ) (before after : Spot) : Type
   pub offset : ℕ
   pub behind : Option (List ℕ)
   pub read : ReadBefore Two limit before.left after.left events (Bad reason offset)
+  pub awaits : AwaitsNoMore after.waited after.left (Bad reason offset)
   pub wrote : Wrote before.written behind (output form (joined groups))
   pub part : WrotePart behind after.written (fault_told form reason offset)
   pub run : RunSoFar before.stand after.stand events groups

@@ -71,12 +71,13 @@ impl From<OpenFault> for ServeFault {
 /// The drive has nothing outstanding and is in no error state, and its IDENTIFY DEVICE data fit it. Answers are written in the
 /// form, each before the next frame is read or waited for; before frames stands the magic of the output. `Open`: the layer was
 /// not opened, for the reason told, and nothing was read or written; refused IDENTIFY DEVICE data are told, but for a lost link
-/// and want of memory. `BadInput` comes after its FAULT frame or line was written, with the reason and the offset of the refused
-/// frame in bytes. `Read` and `Write` come only where the source's or the sink's count of faults rose. An input that can be read
-/// to END ends so, or by want of memory or a lost link before anything is read, where neither the source's nor the sink's count
-/// of faults rises and the drive is not refused. It gives the totals of the whole input. The drive is called at most once for its
-/// identity, 1,089 times for each request and 33 times for each task management function, in sum; those between an UNPLUG and
-/// the next POWER add none (profile).
+/// and want of memory. `BadInput` comes after its FAULT frame or line was written, with the reason and the offset of the
+/// refused frame in bytes, and no byte behind that frame was waited for, unless none is left. `Read` and `Write` come only
+/// where the source's or the sink's count of faults rose. An input that can be read to END ends so, or by want of memory or a
+/// lost link before anything is read, where neither the source's nor the sink's count of faults rises and the drive is not
+/// refused. It gives the totals of the whole input. The drive is called at most once for its identity, 1,089 times for each
+/// request and 33 times for each task management function, in sum; those between an UNPLUG and the next POWER add none
+/// (profile).
 pub fn serve<S: Source, K: Sink, D: Bench<L>, L: Ledger>(
     alloc: Global,
     form: Form,
