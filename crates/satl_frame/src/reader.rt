@@ -335,8 +335,8 @@ impl FrameReader {
     /// The next frame, and before the first one the magic (profile). Exactly its bytes are taken from the source, and none
     /// behind them is waited for. Its order bytes stay in the room. Its data-out stands in the first pages that the lender has
     /// free: bytes that do not fit are taken and dropped, and `data_len` is the length of all. `Bad` says why and where the
-    /// input is refused, and waits for no byte behind those that show it, but for the end where fewer stand there than are
-    /// asked for; `ReadFault` that a read failed. Either is answered again from then on, and nothing more is read.
+    /// input is refused, and no byte behind those that were taken was waited for, unless none is left; `ReadFault` that a read
+    /// failed. Either is answered again from then on, and nothing more is read.
     pub fn next<'a, S: Source, P: Lender>(
         &mut self,
         source: &mut S,

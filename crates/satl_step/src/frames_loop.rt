@@ -46,9 +46,9 @@ fn count_request(requests: u64, frame: &Frame<'_>) -> u64
 
 /// Carries out the frames of an input up to END on one unit, and tells the answers of each before it reads the next, or waits
 /// for it. Gives the number of requests, which stands still at 2^64 - 1. The reader has given no frame, and the unit has no
-/// task. `Refused`: the next frame is refused, which is told to nobody, and no byte behind it was waited for, or a read failed,
-/// where the source's count of faults rose. `Write` comes only where the sink's count rose; else no page of the layer is out at
-/// the end (profile).
+/// task. `Refused`: the next frame is refused, which is told to nobody, and no byte behind it was waited for, unless none is
+/// left; or a read failed, where the source's count of faults rose. `Write` comes only where the sink's count rose; else no
+/// page of the layer is out at the end (profile).
 pub fn serve_frames<S: Source, T: Teller, K: Sink, D: Bench<L>, L: Ledger>(
     alloc: Global,
     reader: &mut FrameReader,
