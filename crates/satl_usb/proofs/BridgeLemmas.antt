@@ -22,7 +22,7 @@ use Rattle.satl_usb.specs.Exchanges.{Exchange, is_told_kept, request_of}
 use Rattle.satl_usb.specs.Exchanges.Exchange.{start, asked, sent}
 use Rattle.satl_usb.specs.Headline.{RanTo, stop_at}
 use Rattle.satl_usb.specs.Items.{AreItems, IsItem, Item, asked_of_item, bytes_of_items, item_bytes, sent_length}
-use Rattle.satl_usb.specs.Reading.{ItemMissed, TookItem, WasAtEnd}
+use Rattle.satl_usb.specs.Reading.{ItemAwaits, ItemMissed, TookItem, WasAtEnd}
 use Rattle.satl_usb.specs.Serving.{BothCarried}
 use Rattle.satl_usb.specs.Wire.{kept_of, kept_on_wire, reply_on_wire}
 use Rattle.satl_usb.specs.declared.items.ItemFault.{ItemFault}
@@ -217,17 +217,18 @@ bridged_whole limit offset a b left waited kept deep g e = record {
 }
 
 -- at what is refused or not read
-pub bridged_missed : (limit offset : ℕ) (a b : Spot) (left : Option (List ℕ)) (waited : Bool) (kept : Option (ArrayVec ℕ)) (fault : ItemFault) → Going limit a b kept offset → ItemMissed limit offset b.left left fault → RanTo limit a (record b { left = left; waited = waited }) (stop_at offset fault)
-bridged_missed limit offset a b left waited kept missed.Bad g (none, front) = record {
+pub bridged_missed : (limit offset : ℕ) (a b : Spot) (left : Option (List ℕ)) (waited : Bool) (kept : Option (ArrayVec ℕ)) (fault : ItemFault) → Going limit a b kept offset → ItemMissed limit offset b.left left fault → ItemAwaits limit offset b.left waited fault → RanTo limit a (record b { left = left; waited = waited }) (stop_at offset fault)
+bridged_missed limit offset a b left waited kept missed.Bad g (none, front) awaits = record {
   talk = talk_of g.items g.told kept;
   mid = b.left;
   bridged = unseen limit a b waited (talk_of g.items g.told kept) g.bridged;
   offset_is = g.at;
   refused = none;
   front = front;
+  awaits = awaits;
   wrote = g.wrote;
 }
-bridged_missed limit offset a b left waited kept missed.Failed g cut_off = record {
+bridged_missed limit offset a b left waited kept missed.Failed g cut_off awaits = record {
   talk = talk_of g.items g.told kept;
   mid = b.left;
   bridged = unseen limit a b waited (talk_of g.items g.told kept) g.bridged;

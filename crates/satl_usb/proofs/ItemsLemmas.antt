@@ -1,6 +1,6 @@
 -- What stands where a wrapper was taken.
-use Rattle.std.proofs.Common.{◌≡◌, refl, sym, ap, subst, arith, ◌∙◌, append_assoc, ℕ, ◌+◌, ◌-◌, ◌<◌, ◌≤◌, List, [], ◌++◌, length, take, drop}
-use Rattle.std.specs.Prelude.{Option, None, Some}
+use Rattle.std.proofs.Common.{◌≡◌, inr, refl, sym, ap, subst, arith, ◌∙◌, append_assoc, ℕ, ◌+◌, ◌-◌, ◌<◌, ◌≤◌, List, [], ◌++◌, length, take, drop}
+use Rattle.std.specs.Prelude.{Bool, Option, None, Some}
 use Rattle.std.proofs.Math.Seq.{take-append_seam, drop-append_seam}
 use Rattle.std.proofs.lemmas.Bool.{le-ltb, lt-ltb}
 use Rattle.std.proofs.lemmas.List.{length-append, take_all}
@@ -9,9 +9,10 @@ use Rattle.satl_bot.specs.Wrappers.{cbw_of}
 use Rattle.satl_base.specs.declared.block.Block.{Block}
 use Rattle.satl_frame.specs.Pulls.{FewerThan, Lacks, TookPages}
 use Rattle.satl_frame.proofs.Stopping.{fewer_after}
+use Rattle.std.specs.Io.KnownBytes.{IsAtEnd}
 use Rattle.satl_io.specs.Known.{Took}
 use Rattle.satl_io.proofs.Joined.{Took-more}
-use Rattle.satl_usb.specs.Items.{HasNoItem, ItemStands, TookAsked, asked_behind, asked_of_item, item_bytes, sent_length}
+use Rattle.satl_usb.specs.Items.{AwaitsNoMore, HasNoItem, ItemStands, TookAsked, asked_behind, asked_of_item, item_bytes, sent_length}
 use Rattle.satl_usb.specs.Reading.{TookHead, TookItem}
 
 -- fronts that are equally long are the same, and so are the rests
@@ -100,6 +101,28 @@ too_short limit offset (Some bytes) (Some behind) left' command t lacks near fit
       (not_empty limit offset bytes t.head behind t.size is, λ s. let size = same_length limit offset bytes t.head behind t.size is command t.says s in let fits = ap length s.split ∙ length-append (item_bytes s.item) s.rest in absurd (omega (arith, size, fits, all, few))),
       subst (Took (Some bytes) left') (sym (whole ∙ is)) (Took-more t.took lacks.known.1),
     )
+
+-- ---- what was waited for
+
+-- fewer bytes stood there than a wrapper has
+pub few_await : (left left' : Option (List ℕ)) (waited : Bool) (taken : List ℕ) → length taken < 31 → Took left left' taken → IsAtEnd left' → (limit offset : ℕ) → AwaitsNoMore limit offset left waited
+few_await None left' waited taken few took ends limit offset = inr tt
+few_await (Some bytes) None waited taken few took ends limit offset = absurd took.known
+few_await (Some bytes) (Some rest) waited taken few took ends limit offset =
+    let all : length bytes ≡ length taken + length rest = ap length took.known ∙ length-append taken rest in
+    let none = ap length ends in
+    inr (omega (arith, all, none, few))
+
+-- fewer bytes stood behind a wrapper than it tells
+pub short_awaits : (limit offset : ℕ) (left mid left' : Option (List ℕ)) (waited : Bool) (command : Cbw) → TookHead left mid command → Lacks mid left' (sent_length command) → offset ≤ limit → 31 + sent_length command ≤ limit - offset → AwaitsNoMore limit offset left waited
+short_awaits limit offset None mid left' waited command t lacks near fits = inr tt
+short_awaits limit offset (Some bytes) None left' waited command t lacks near fits = absurd t.took.known
+short_awaits limit offset (Some bytes) (Some behind) left' waited command t lacks near fits =
+    let is : bytes ≡ t.head ++ behind = t.took.known in
+    let few = lacks.known.0 in
+    let all : length bytes ≡ 31 + length behind = let both = ap length is ∙ length-append t.head behind in let size = t.size in omega (arith, both, size) in
+    let asked : asked_of_item limit offset bytes ≡ 31 + sent_length command = asked_is limit offset bytes t.head behind t.size is (Some command) t.says ∙ ap (λ n. 31 + n) (asked_within limit offset command (omega (arith, near, fits))) in
+    inr (omega (arith, asked, all, few))
 
 -- a read failed within what a wrapper tells
 pub cut_body : (limit offset : ℕ) (left mid left' : Option (List ℕ)) (command : Cbw) → TookHead left mid command → FewerThan mid left' (λ _. sent_length command) → offset ≤ limit → 31 + sent_length command ≤ limit - offset → FewerThan left left' (asked_of_item limit offset)

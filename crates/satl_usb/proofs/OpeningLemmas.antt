@@ -59,6 +59,6 @@ module _ (limit : ℕ) (before after : Moment) (mid_drive : DriveState) (opened 
 
   pub stops : (fault : UsbFault) → RanTo limit a b fault → IsStopped limit before after fault
   stops (faults.Open opening) r = absurd r
-  stops (faults.BadInput offset) r = serves (BridgedBefore limit offset) (record { talk = r.talk; mid = r.mid; bridged = earlier (record b { left = r.mid }) r.talk r.bridged; offset_is = r.offset_is; refused = r.refused; front = r.front; wrote = r.wrote })
+  stops (faults.BadInput offset) r = serves (BridgedBefore limit offset) (record { talk = r.talk; mid = r.mid; bridged = earlier (record b { left = r.mid }) r.talk r.bridged; offset_is = r.offset_is; refused = r.refused; front = r.front; awaits = r.awaits; wrote = r.wrote })
   stops faults.Read r = serves (BridgedUpTo limit) (record { talk = r.talk; mid = r.mid; bridged = earlier (record b { left = r.mid }) r.talk r.bridged; cut_off = r.cut_off; wrote = r.wrote })
   stops faults.Write r = serves (BridgedInPart limit) (record { earlier = r.earlier; last = r.last; due = r.due; answer = r.answer; kept = r.kept; behind = r.behind; bridged = earlier b (talk_of (r.earlier ++ r.last ∷ []) (r.due ++ r.answer ∷ []) r.kept) r.bridged; unwaited = r.unwaited; wrote = r.wrote; part = r.part })

@@ -9,7 +9,7 @@ use Rattle.satl_frame.specs.Output.{Answer}
 use Rattle.satl_frame.specs.Pulls.{FewerThan}
 use Rattle.satl_step.specs.Runs.{RunSoFar}
 use Rattle.satl_serve.specs.Moments.{Spot}
-use Rattle.satl_usb.specs.Items.{AreItems, HasNoItem, Item, TookAsked, asked_of_item, bytes_of_items}
+use Rattle.satl_usb.specs.Items.{AreItems, AwaitsNoMore, HasNoItem, Item, TookAsked, asked_of_item, bytes_of_items}
 use Rattle.satl_usb.specs.Exchanges.{Exchange}
 
 -- these items were taken from the source (profile)
@@ -52,7 +52,8 @@ pub record BridgedWhole (limit : ℕ) (before after : Spot) : Type 0 where
   pub deep : bridged.run.deep ≤ after.stand.tally.deepest
 
 -- the items before an offset were taken and carried out, and what they are on the wire was written; what stands at the offset
--- is refused: of it as much was taken as is asked for, and nothing is written for it (profile)
+-- is refused: of it as much was taken as is asked for, no byte behind that was waited for, and nothing is written for it
+-- (profile)
 pub record BridgedBefore (limit offset : ℕ) (before after : Spot) : Type 0 where
   pub talk : Talk
   pub mid : Option (List ℕ)
@@ -60,6 +61,7 @@ pub record BridgedBefore (limit offset : ℕ) (before after : Spot) : Type 0 whe
   pub offset_is : offset ≡ length (bytes_of_items talk.items)
   pub refused : HasNoItem limit offset mid
   pub front : TookAsked limit offset mid after.left
+  pub awaits : AwaitsNoMore limit offset mid after.waited
   pub wrote : Wrote before.written after.written (wire_of talk.told)
 
 -- the same, and a read failed before all was taken that is asked for of the next item (profile)

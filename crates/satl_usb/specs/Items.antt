@@ -1,6 +1,6 @@
 -- The input of the bridge: commands as they stand on the wire, each with the data that is sent with it (USB Mass Storage Class,
 -- Bulk-Only Transport 1.0, 5.3).
-use Rattle.std.specs.Prelude.{◌≡◌, ℕ, ◌+◌, ◌≤◌, nat_lt, List, [], ◌∷◌, ◌++◌, length, take, Option, None, Some, IfSome, if◌then◌else◌}
+use Rattle.std.specs.Prelude.{◌≡◌, ◌⊎◌, ℕ, ◌+◌, ◌<◌, ◌≤◌, Bool, false, nat_lt, List, [], ◌∷◌, ◌++◌, length, take, Option, None, Some, IfSome, if◌then◌else◌}
 use Rattle.std.specs.List.{flat_map}
 use Rattle.satl_io.specs.Known.{Took}
 use Rattle.satl_bot.specs.declared.command.Cbw.{Cbw}
@@ -59,3 +59,8 @@ asked_of_item limit offset bytes = 31 + asked_behind limit offset (cbw_of (take 
 -- as many bytes were taken as are asked for, or all where there are fewer (profile)
 abbrev pub TookAsked : ℕ → ℕ → Option (List ℕ) → Option (List ℕ) → Type 0
 TookAsked limit offset left left' = IfSome left (λ bytes. Took left left' (take (asked_of_item limit offset bytes) bytes))
+
+-- no byte was waited for behind those that are asked for, or fewer stand there (profile)
+abbrev pub AwaitsNoMore : ℕ → ℕ → Option (List ℕ) → Bool → Type 0
+AwaitsNoMore limit offset left waited =
+    (waited ≡ false) ⊎ IfSome left (λ bytes. length bytes < asked_of_item limit offset bytes)

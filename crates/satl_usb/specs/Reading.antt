@@ -1,5 +1,5 @@
 -- What reading one item gives (profile).
-use Rattle.std.specs.Prelude.{◌≡◌, ◌≤◌, ◌+◌, ℕ, List, [], length, take, Option, None, Some, Result, IsErrOf}
+use Rattle.std.specs.Prelude.{◌≡◌, ◌≤◌, ◌+◌, ℕ, Bool, List, [], length, take, Option, None, Some, Result, IsErrOf}
 use Rattle.std.specs.Io.KnownBytes.{IsAtEnd}
 use Rattle.satl_bot.specs.declared.command.Cbw.{Cbw}
 use Rattle.satl_bot.specs.Wrappers.{cbw_of}
@@ -10,7 +10,7 @@ use Rattle.satl_io.specs.Known.{Took}
 use Rattle.satl_usb.specs.declared.items.ItemFault.{ItemFault}
 use Rattle.satl_usb.specs.declared.items.ItemFault.TheVariants as faults
 use Rattle.satl_usb.specs.declared.items.Taken.{Taken}
-use Rattle.satl_usb.specs.Items.{HasNoItem, IsItem, Item, TookAsked, asked_of_item, item_bytes}
+use Rattle.satl_usb.specs.Items.{AwaitsNoMore, HasNoItem, IsItem, Item, TookAsked, asked_of_item, item_bytes}
 
 -- nothing was left to take
 pub record WasAtEnd (left left' : Option (List ℕ)) : Type 0 where
@@ -43,6 +43,11 @@ abbrev pub HeadMissed : Option (List ℕ) → Option (List ℕ) → ItemFault �
 HeadMissed left left' faults.Bad = (limit offset : ℕ) → HasNoItem limit offset left × TookAsked limit offset left left'
 HeadMissed left left' faults.Failed = FewerThan left left' (λ _. 31)
 
+-- no wrapper: no byte behind the 31 was waited for, or fewer stand there; of a failed read nothing is said
+abbrev pub HeadAwaits : Option (List ℕ) → Bool → ItemFault → Type 0
+HeadAwaits left waited faults.Bad = (limit offset : ℕ) → AwaitsNoMore limit offset left waited
+HeadAwaits left waited faults.Failed = Unit {0}
+
 -- an item, or the end of the source
 abbrev pub ItemRead : ℕ → ℕ → ℕ → Option (List ℕ) → Option (List ℕ) → Option Taken → Type 0
 ItemRead limit offset room left left' None = WasAtEnd left left'
@@ -52,6 +57,11 @@ ItemRead limit offset room left left' (Some taken) = TookItem limit offset room 
 abbrev pub ItemMissed : ℕ → ℕ → Option (List ℕ) → Option (List ℕ) → ItemFault → Type 0
 ItemMissed limit offset left left' faults.Bad = HasNoItem limit offset left × TookAsked limit offset left left'
 ItemMissed limit offset left left' faults.Failed = FewerThan left left' (asked_of_item limit offset)
+
+-- no item: no byte behind what is asked for was waited for, or fewer stand there; of a failed read nothing is said
+abbrev pub ItemAwaits : ℕ → ℕ → Option (List ℕ) → Bool → ItemFault → Type 0
+ItemAwaits limit offset left waited faults.Bad = AwaitsNoMore limit offset left waited
+ItemAwaits limit offset left waited faults.Failed = Unit {0}
 
 -- a read failed only where the count rose, which has not fallen
 pub record ItemCauses {T : Type 0} (before now : ℕ) (result : Result T ItemFault) : Type 0 where

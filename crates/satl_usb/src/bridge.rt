@@ -31,12 +31,12 @@ use std::sync::ledger::Ledger;
 /// unit is asked nothing. `Open`: the layer was not opened, for the reason told, and nothing was read or written. `BadInput`:
 /// what stands at the offset, in bytes, is no item; the items before it were carried out, and nothing is written for it. Of
 /// what stands there exactly 31 bytes were taken, and behind a good wrapper whose item would end within 2^40 bytes the data
-/// that it tells, or all where there are fewer. `Read` and `Write` come only where the source's or the sink's count of faults
-/// rose; at `Read` fewer bytes were taken than these; at `Write` all items taken were carried out, and of the last one's answer
-/// a front was written. At every answer the drive was not unplugged, and no order bytes were handed in to it. An input that is
-/// items to its end is carried out whole, where no count of faults rises and the drive is not refused, or there is no memory
-/// before anything is read. No memory is taken behind the opening (USB Mass Storage Class, Bulk-Only Transport 1.0, 5;
-/// profile).
+/// that it tells, or all where there are fewer; no byte behind these was waited for, unless there are fewer. `Read` and `Write`
+/// come only where the source's or the sink's count of faults rose; at `Read` fewer bytes were taken than these; at `Write` all
+/// items taken were carried out, and of the last one's answer a front was written. At every answer the drive was not unplugged,
+/// and no order bytes were handed in to it. An input that is items to its end is carried out whole, where no count of faults
+/// rises and the drive is not refused, or there is no memory before anything is read. No memory is taken behind the opening
+/// (USB Mass Storage Class, Bulk-Only Transport 1.0, 5; profile).
 pub fn serve_usb<S: Source, K: Sink, D: Bench<L>, L: Ledger>(
     alloc: Global,
     source: &mut S,

@@ -4,7 +4,7 @@ ghost use Rattle.satl_base.specs.Stocks.{HasLent};
 ghost use Rattle.satl_base.specs.Limits.{input_limit};
 ghost use Rattle.satl_frame.specs.Pulls.{given_pages};
 ghost use Rattle.satl_usb.specs.Items.{sent_length};
-ghost use Rattle.satl_usb.specs.Reading.{HeadMissed, HeadRead, ItemCauses, ItemMissed, ItemRead, pages_read};
+ghost use Rattle.satl_usb.specs.Reading.{HeadAwaits, HeadMissed, HeadRead, ItemAwaits, ItemCauses, ItemMissed, ItemRead, pages_read};
 
 use satl_base::{INPUT_LIMIT, Lender, Pages};
 use satl_bot::{CBW_SIZE, Cbw, read_cbw};
@@ -52,6 +52,7 @@ fn read_head<S: Source>(source: &mut S) -> Result<Option<Cbw>, ItemFault>
     ensures read { IfOk result (HeadRead (S.left source.old) (S.left source.new)) }
     ensures unwaited { IfOk result (λ head. IfSome head (λ _. S.waited source.new ≡ false)) }
     ensures missed { IfErr result (HeadMissed (S.left source.old) (S.left source.new)) }
+    ensures awaits { IfErr result (HeadAwaits (S.left source.old) (S.waited source.new)) }
     ensures causes { ItemCauses (S.faults source.old) (S.faults source.new) result }
 {
     let mut head = [0; CBW_SIZE];
@@ -69,7 +70,8 @@ fn read_head<S: Source>(source: &mut S) -> Result<Option<Cbw>, ItemFault>
 /// the end of the source. `Bad`: a byte stands there, and no item that ends within 2^40 bytes. Of what stands there 31 bytes
 /// are asked for, and behind a good wrapper whose item would end within the limit the data that it tells: at `Bad` so many were
 /// taken, or all where there are fewer. `Failed` comes only where the source's count of faults rose; then fewer were taken.
-/// Behind an item no byte is waited for (USB Mass Storage Class, Bulk-Only Transport 1.0, 5.3; the limit: profile).
+/// Behind an item no byte is waited for, nor behind what was asked for at `Bad` (USB Mass Storage Class, Bulk-Only Transport
+/// 1.0, 5.3; the limit: profile).
 pub fn next_item<S: Source, P: Lender>(
     source: &mut S,
     lender: &mut P,
@@ -79,6 +81,7 @@ pub fn next_item<S: Source, P: Lender>(
     ensures read { IfOk result (ItemRead input_limit offset (P.stock lender.old).free (S.left source.old) (S.left source.new)) }
     ensures unwaited { IfOk result (λ item. IfSome item (λ _. S.waited source.new ≡ false)) }
     ensures missed { IfErr result (ItemMissed input_limit offset (S.left source.old) (S.left source.new)) }
+    ensures awaits { IfErr result (ItemAwaits input_limit offset (S.left source.old) (S.waited source.new)) }
     ensures causes { ItemCauses (S.faults source.old) (S.faults source.new) result }
     ensures lent { HasLent (given_pages pages_read result) (P.stock lender.old) (P.stock lender.new) }
 {

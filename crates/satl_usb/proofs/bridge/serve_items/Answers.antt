@@ -35,7 +35,7 @@ returns-in-Ok-None-clause-bridges g c = record {
 }
 
 pub returns-in-Err-clause-bridges : goal.returns-in-Err-clause-bridges
-returns-in-Err-clause-bridges g c = record { whole = tt; stopped = subst (RanTo input_limit (spot (g.S.Source.left c.args.source.now) (g.S.Source.waited c.args.source.now) (g.K.Sink.written c.args.sink.now) (stand_of c.args.satl.now (g.D.Drive.state c.args.drive.now) c.args.steps.now)) (spot (g.S.Source.left c.next_item.new.source) (g.S.Source.waited c.next_item.new.source) (g.K.Sink.written c.items.sink) (stand_of c.next_item.new.lender (g.D.Drive.state c.items.drive) c.items.steps))) (sym c.stop_at.ensures) (bridged_missed input_limit c.items.offset (spot (g.S.Source.left c.args.source.now) (g.S.Source.waited c.args.source.now) (g.K.Sink.written c.args.sink.now) (stand_of c.args.satl.now (g.D.Drive.state c.args.drive.now) c.args.steps.now)) (spot (g.S.Source.left c.items.source) (g.S.Source.waited c.items.source) (g.K.Sink.written c.items.sink) (stand_of c.next_item.new.lender (g.D.Drive.state c.items.drive) c.items.steps)) (g.S.Source.left c.next_item.new.source) (g.S.Source.waited c.next_item.new.source) c.items.kept c.in-Err.fault (going_same input_limit (spot (g.S.Source.left c.args.source.now) (g.S.Source.waited c.args.source.now) (g.K.Sink.written c.args.sink.now) (stand_of c.args.satl.now (g.D.Drive.state c.args.drive.now) c.args.steps.now)) (spot (g.S.Source.left c.items.source) (g.S.Source.waited c.items.source) (g.K.Sink.written c.items.sink) (stand_of c.items.satl (g.D.Drive.state c.items.drive) c.items.steps)) (stand_of c.next_item.new.lender (g.D.Drive.state c.items.drive) c.items.steps) c.items.kept c.items.offset (ap (λ (l : Layer). stand_of l (g.D.Drive.state c.items.drive) c.items.steps) c.in-Err.ensures.lent.rest) c.items.invariant.going) c.in-Err.ensures.missed) }
+returns-in-Err-clause-bridges g c = record { whole = tt; stopped = subst (RanTo input_limit (spot (g.S.Source.left c.args.source.now) (g.S.Source.waited c.args.source.now) (g.K.Sink.written c.args.sink.now) (stand_of c.args.satl.now (g.D.Drive.state c.args.drive.now) c.args.steps.now)) (spot (g.S.Source.left c.next_item.new.source) (g.S.Source.waited c.next_item.new.source) (g.K.Sink.written c.items.sink) (stand_of c.next_item.new.lender (g.D.Drive.state c.items.drive) c.items.steps))) (sym c.stop_at.ensures) (bridged_missed input_limit c.items.offset (spot (g.S.Source.left c.args.source.now) (g.S.Source.waited c.args.source.now) (g.K.Sink.written c.args.sink.now) (stand_of c.args.satl.now (g.D.Drive.state c.args.drive.now) c.args.steps.now)) (spot (g.S.Source.left c.items.source) (g.S.Source.waited c.items.source) (g.K.Sink.written c.items.sink) (stand_of c.next_item.new.lender (g.D.Drive.state c.items.drive) c.items.steps)) (g.S.Source.left c.next_item.new.source) (g.S.Source.waited c.next_item.new.source) c.items.kept c.in-Err.fault (going_same input_limit (spot (g.S.Source.left c.args.source.now) (g.S.Source.waited c.args.source.now) (g.K.Sink.written c.args.sink.now) (stand_of c.args.satl.now (g.D.Drive.state c.args.drive.now) c.args.steps.now)) (spot (g.S.Source.left c.items.source) (g.S.Source.waited c.items.source) (g.K.Sink.written c.items.sink) (stand_of c.items.satl (g.D.Drive.state c.items.drive) c.items.steps)) (stand_of c.next_item.new.lender (g.D.Drive.state c.items.drive) c.items.steps) c.items.kept c.items.offset (ap (λ (l : Layer). stand_of l (g.D.Drive.state c.items.drive) c.items.steps) c.in-Err.ensures.lent.rest) c.items.invariant.going) c.in-Err.ensures.missed c.in-Err.ensures.awaits) }
 
 pub returns-in-Err-clause-tied : goal.returns-in-Err-clause-tied
 returns-in-Err-clause-tied g c = tied_lent c.items.satl c.next_item.new.lender (g.D.Drive.state c.items.drive) c.in-Err.ensures.lent.rest c.items.invariant.tied
