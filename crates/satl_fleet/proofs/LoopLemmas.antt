@@ -10,7 +10,7 @@ use Rattle.satl_frame.specs.Frames.{IsFrame, IsRequest, data_out}
 use Rattle.satl_frame.specs.Inputs.{NoneEnds}
 use Rattle.satl_frame.specs.Progress.{HasRead}
 use Rattle.satl_frame.specs.Pulls.{cut_to}
-use Rattle.satl_frame.specs.Reading.{Blames, Gave, Reading}
+use Rattle.satl_frame.specs.Reading.{AwaitsNoMore, Blames, Gave, Reading}
 use Rattle.satl_frame.specs.declared.frames.Version.{Version}
 use Rattle.satl_frame.specs.declared.frames.Frame.{Frame}
 use Rattle.satl_frame.specs.declared.frames.Frame.TheVariants as frames
@@ -108,13 +108,14 @@ module _ (units : ℕ) where
       }
 
   -- what follows was refused or not read
-  pub refused : (a b : LoopState) (reader : Reading) (left : Option (List ℕ)) (waited : Bool) (why : FrameFault) → Going units a b → Blames b.reader b.left left why → Refused units why a (record b { reader = reader; left = left; waited = waited })
+  pub refused : (a b : LoopState) (reader : Reading) (left : Option (List ℕ)) (waited : Bool) (why : FrameFault) → Going units a b → Blames b.reader b.left left why → AwaitsNoMore waited left why → Refused units why a (record b { reader = reader; left = left; waited = waited })
   unfolding unseen
-  refused a b reader left waited why going blames = record {
+  refused a b reader left waited why going blames awaits = record {
     reader = b.reader;
     mid = b.left;
     going = unseen a b waited going;
     blames = blames;
+    awaits = awaits;
   }
 
   module _ (a b c : LoopState) (room : ℕ) (frame : Frame) (going : Going units a b) (gave : Gave b.reader room frame c.reader b.left c.left) (whole : gave.whole ≡ frame) (calls : calls_due c.stage.target c.calls ≤ calls_due b.stage.target b.calls + frame_calls units frame) (uncalled : NoneCalls units frame b.stage.target.units → c.calls ≡ b.calls) (long : length b.stage.target.units ≡ units) where

@@ -78,7 +78,7 @@ module _ (units : ℕ) (written : Option (List ℕ)) (a : LoopState) (begins : B
     before why last r wrote = record {
       rounds = r.going.rounds;
       are_rounds = r.going.so_far.are_rounds;
-      told = record { read = read_before why r; wrote = Wrote-more (printed r.going.rounds b.stage.written r.going.so_far.wrote) wrote };
+      told = record { read = read_before why r; awaits = r.awaits; wrote = Wrote-more (printed r.going.rounds b.stage.written r.going.so_far.wrote) wrote };
       run = r.going.so_far.run;
       calls = fewest r.going.so_far;
     }
@@ -92,6 +92,7 @@ module _ (units : ℕ) (written : Option (List ℕ)) (a : LoopState) (begins : B
         offset = offset;
         behind = b.stage.written;
         read = read_before (Bad reason offset) r;
+        awaits = r.awaits;
         wrote = printed r.going.rounds b.stage.written r.going.so_far.wrote;
         part = part;
       };

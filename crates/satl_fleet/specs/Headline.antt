@@ -12,7 +12,7 @@ use Rattle.satl_frame.specs.declared.frames.Version.TheVariants.{One}
 use Rattle.satl_frame.specs.Inputs.{NoneEnds}
 use Rattle.satl_frame.specs.Output.{fault_bytes, out_magic}
 use Rattle.satl_frame.specs.Progress.{HasRead, ReadTo}
-use Rattle.satl_frame.specs.Reading.{Reading}
+use Rattle.satl_frame.specs.Reading.{AwaitsNoMore, Reading}
 use Rattle.satl_fleet.specs.Moments.{FleetMoment, Streams, Terms, streams_at, terms}
 use Rattle.satl_fleet.specs.Opening.{IsLeftAlone}
 use Rattle.satl_fleet.specs.Output.{IsRoundOf, Round, frames_of, output, round_told}
@@ -43,9 +43,11 @@ pub record IsToldWhole (on : Terms) (before after : Streams) (rounds : List Roun
   pub unwaited : after.waited ≡ false
   pub wrote : Wrote before.written after.written (output on.units rounds)
 
--- the same of frames none of which is END, and what follows was refused or not read, which was told (profile)
+-- the same of frames none of which is END, and what follows was refused, and nothing behind that was waited for, or not read,
+-- which was told (profile)
 pub record IsToldBefore (on : Terms) (why : FrameFault) (before after : Streams) (rounds : List Round) : Type 0 where
   pub read : ReadBefore One on.limit before.left after.left (frames_of rounds) why
+  pub awaits : AwaitsNoMore after.waited after.left why
   pub wrote : Wrote before.written after.written (output on.units rounds ++ told_of Frames why)
 
 -- nothing was read or waited for, and a front of the magic was written (profile)
@@ -67,13 +69,14 @@ pub record BreaksInRound (on : Terms) (before after : Streams) (rounds : List Ro
   pub wrote : Wrote before.written behind (output on.units rounds)
   pub part : WrotePart behind after.written (round_told on.units round)
 
--- the output of rounds was written whole, none of which is END; and what follows was refused, of which a front was told
--- (profile)
+-- the output of rounds was written whole, none of which is END; and what follows was refused, nothing behind that was waited
+-- for, and of what tells it a front was written (profile)
 pub record BreaksInFault (on : Terms) (before after : Streams) (rounds : List Round) : Type 0 where
   pub reason : Reason
   pub offset : ℕ
   pub behind : Option (List ℕ)
   pub read : ReadBefore One on.limit before.left after.left (frames_of rounds) (Bad reason offset)
+  pub awaits : AwaitsNoMore after.waited after.left (Bad reason offset)
   pub wrote : Wrote before.written behind (output on.units rounds)
   pub part : WrotePart behind after.written (fault_bytes reason offset)
 

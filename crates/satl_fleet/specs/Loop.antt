@@ -7,7 +7,7 @@ use Rattle.satl_frame.specs.declared.frames.Frame.TheVariants as frames
 use Rattle.satl_frame.specs.declared.frames.FrameFault.{FrameFault}
 use Rattle.satl_frame.specs.Inputs.{NoneEnds}
 use Rattle.satl_frame.specs.Progress.{HasRead}
-use Rattle.satl_frame.specs.Reading.{Blames, Reading}
+use Rattle.satl_frame.specs.Reading.{AwaitsNoMore, Blames, Reading}
 use Rattle.satl_step.specs.Runs.{calls_allowed, is_lost_behind_all}
 use Rattle.satl_step.specs.declared.frames_loop.Stop.{Stop}
 use Rattle.satl_step.specs.declared.frames_loop.Stop.TheVariants as stops
@@ -64,12 +64,13 @@ pub record ReachedEnd (units : ℕ) (before after : LoopState) : Type 0 where
   pub ends : frames_of rounds ≡ earlier ++ frames.End ∷ []
   pub unwaited : after.waited ≡ false
 
--- rounds were served, and what follows them was refused or not read (profile)
+-- rounds were served, and what follows them was refused, and nothing behind that was waited for, or not read (profile)
 pub record Refused (units : ℕ) (why : FrameFault) (before after : LoopState) : Type 0 where
   pub reader : Reading
   pub mid : Option (List ℕ)
   pub going : Going units before (record after { reader = reader; left = mid })
   pub blames : Blames reader mid after.left why
+  pub awaits : AwaitsNoMore after.waited after.left why
 
 -- rounds were served and told; then one frame more was read, and a front of what is due to it was written before a byte behind
 -- it was waited for: all units did it, or units up to one that did it in whole or in part (profile)

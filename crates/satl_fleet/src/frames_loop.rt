@@ -19,8 +19,8 @@ use std::sync::ledger::Ledger;
 
 /// Carries out the frames of an input up to END on the units, and tells the answers of each before it reads the next. Frames
 /// are read into the pool, whose 4,096 pages hold each whole one. The reader has given no frame, and no unit has a task.
-/// `Refused`: the next frame is refused, which is told to nobody, or a read failed, where the source's count of faults rose.
-/// `Write` comes only where the sink's count rose (profile).
+/// `Refused`: the next frame is refused, which is told to nobody, and no byte behind it was waited for, unless none is left; or
+/// a read failed, where the source's count of faults rose. `Write` comes only where the sink's count rose (profile).
 pub fn serve_frames<S: Source, K: Sink, D: Bench<L>, L: Ledger>(
     alloc: Global,
     reader: &mut FrameReader,

@@ -36,8 +36,9 @@ const POOL_PAGES: u32 = MOST_MOVED;
 /// Each drive has nothing outstanding and is in no error state, and its IDENTIFY DEVICE data fit it.
 /// `Open`: the layer was not opened on each drive, for the cause told of one of them or for want of memory, and nothing was
 /// read or written. `BadInput` comes after its FAULT frame was written, with the reason and the offset of the refused frame in
-/// bytes. `Read` and `Write` come only where the source's or the sink's count of faults rose. Together the drives are called as
-/// often at most as there are drives, for their identities, and then as the frames allow (SAM-5 4.6; profile).
+/// bytes, and no byte behind that frame was waited for, unless none is left. `Read` and `Write` come only where the source's or
+/// the sink's count of faults rose. Together the drives are called as often at most as there are drives, for their identities,
+/// and then as the frames allow (SAM-5 4.6; profile).
 pub fn serve_fleet<S: Source, K: Sink, D: Bench<L>, L: Ledger>(
     alloc: Global,
     source: &mut S,

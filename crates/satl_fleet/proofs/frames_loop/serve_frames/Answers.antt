@@ -71,7 +71,7 @@ frames-preserved g c =
 
 pub returns-in-Err-clause-stopped : goal.returns-in-Err-clause-stopped
 returns-in-Err-clause-stopped g c =
-    refused (vec_len c.args.units.now) (loop_state c.args.reader.now (g.S.Source.left c.args.source.now) (g.S.Source.waited c.args.source.now) (stage (target g.D.Drive.state c.args.units.now c.args.drives.now) (g.K.Sink.written c.args.sink.now)) c.args.steps.now) (loop_state c.frames.reader (g.S.Source.left c.frames.source) (g.S.Source.waited c.frames.source) (stage (target g.D.Drive.state c.frames.units c.frames.drives) (g.K.Sink.written c.frames.sink)) c.frames.steps) c.next.new.self (g.S.Source.left c.next.new.source) (g.S.Source.waited c.next.new.source) c.in-Err.fault c.frames.invariant.going (c.in-Err.ensures.blames c.frames.invariant.fresh)
+    refused (vec_len c.args.units.now) (loop_state c.args.reader.now (g.S.Source.left c.args.source.now) (g.S.Source.waited c.args.source.now) (stage (target g.D.Drive.state c.args.units.now c.args.drives.now) (g.K.Sink.written c.args.sink.now)) c.args.steps.now) (loop_state c.frames.reader (g.S.Source.left c.frames.source) (g.S.Source.waited c.frames.source) (stage (target g.D.Drive.state c.frames.units c.frames.drives) (g.K.Sink.written c.frames.sink)) c.frames.steps) c.next.new.self (g.S.Source.left c.next.new.source) (g.S.Source.waited c.next.new.source) c.in-Err.fault c.frames.invariant.going (c.in-Err.ensures.blames c.frames.invariant.fresh) (c.in-Err.ensures.awaits c.frames.invariant.fresh)
 
 pub returns-in-Err-clause-keeps : goal.returns-in-Err-clause-keeps
 returns-in-Err-clause-keeps g c = record { tied = all_tied (unit_states c.frames.units.items (map g.D.Drive.state c.frames.drives.items)) c.frames.invariant.serve.has.ready; layers = c.frames.invariant.units; drives = c.frames.invariant.drives }
