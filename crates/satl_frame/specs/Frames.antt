@@ -84,6 +84,7 @@ is_expectable (Some count) = nat_le count longest_data
 abbrev pub request_fields : Request → List ℕ
 request_fields r = (r.nexus ∷ attr_code r.attr ∷ r.lun) ++ (big_bytes 4 (r.tag).0 ++ (r.cdb ++ expected_field r.expected))
 
+-- the bytes of its data-out, in front of what else its pages hold
 abbrev pub data_out : Request → List ℕ
 data_out r = first_bytes r.data_len r.body
 
@@ -100,6 +101,7 @@ event_fields (Order order) = 4 ∷ order
 event_fields Power = 5 ∷ []
 event_fields Unplug = 6 ∷ []
 
+-- the byte that a frame begins with
 abbrev pub kind : Frame → ℕ
 kind (frames.Request r) = 0x01
 kind (frames.Manage m) = 0x02
@@ -107,6 +109,7 @@ kind (frames.Turn count) = 0x03
 kind (frames.Bench event) = 0x04
 kind frames.End = 0x05
 
+-- what follows its kind and its length
 abbrev pub payload_bytes : Frame → List ℕ
 payload_bytes (frames.Request r) = request_fields r ++ data_out r
 payload_bytes (frames.Manage m) = manage_fields m
@@ -142,16 +145,19 @@ pub record HasData (r : Request) : Type 0 where
   pub short : r.data_len ≤ longest_data
   pub pages : r.body ≡ pages_of (data_out r)
 
+-- its fields fit a frame of this version, and its pages hold its data-out
 pub record IsRequest (version : Version) (r : Request) : Type 0 where
   pub fields : HasFields version r
   pub sent : HasData r
 
+-- its fields fit a frame
 pub record IsManage (m : Manage) : Type 0 where
   pub nexus : m.nexus ≤ 3
   pub function : m.function < 2 ^ 8
   pub lun : length m.lun ≡ 8
   pub tag : (m.tag).0 < 2 ^ 32
 
+-- its fields fit a frame
 abbrev pub IsEvent : BenchEvent → Type 0
 IsEvent (Strike which lba) = lba < 2 ^ 64
 IsEvent (Mend lba) = lba < 2 ^ 64

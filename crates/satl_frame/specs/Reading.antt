@@ -81,9 +81,8 @@ pub record ReadCauses {T : Type 0} (before now : ℕ) (result : Result T FrameFa
   pub later : before ≤ now
   pub failed : IsErrOf result ReadFault → Rose before now
 
--- a refusal has waited for no byte behind those that were taken or, where the magic or a kind is bad, none is left to take, as
--- where fewer stand there than are asked for. Where bytes are cut short they have ended, and of a failed read nothing is said
--- (profile)
+-- what a refusal has waited for: no byte behind those that were taken. Where the magic or a kind is bad fewer may have stood
+-- there than are asked for, and then none is left. Where a frame is cut short, or a read failed, nothing is said (profile)
 abbrev pub AwaitsNoMore : Bool → Option (List ℕ) → FrameFault → Type 0
 AwaitsNoMore waited left (Bad BadMagic offset) = (waited ≡ false) ⊎ IsAtEnd left
 AwaitsNoMore waited left (Bad BadKind offset) = (waited ≡ false) ⊎ IsAtEnd left
