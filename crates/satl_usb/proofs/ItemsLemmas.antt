@@ -9,7 +9,6 @@ use Rattle.satl_bot.specs.Wrappers.{cbw_of}
 use Rattle.satl_base.specs.declared.block.Block.{Block}
 use Rattle.satl_frame.specs.Pulls.{FewerThan, Lacks, TookPages}
 use Rattle.satl_frame.proofs.Stopping.{fewer_after}
-use Rattle.std.specs.Io.KnownBytes.{IsAtEnd}
 use Rattle.satl_io.specs.Known.{Took}
 use Rattle.satl_io.proofs.Joined.{Took-more}
 use Rattle.satl_usb.specs.Items.{AwaitsNoMore, HasNoItem, ItemStands, TookAsked, asked_behind, asked_of_item, item_bytes, sent_length}
@@ -103,15 +102,6 @@ too_short limit offset (Some bytes) (Some behind) left' command t lacks near fit
     )
 
 -- ---- what was waited for
-
--- fewer bytes stood there than a wrapper has
-pub few_await : (left left' : Option (List ℕ)) (waited : Bool) (taken : List ℕ) → length taken < 31 → Took left left' taken → IsAtEnd left' → (limit offset : ℕ) → AwaitsNoMore limit offset left waited
-few_await None left' waited taken few took ends limit offset = inr tt
-few_await (Some bytes) None waited taken few took ends limit offset = absurd took.known
-few_await (Some bytes) (Some rest) waited taken few took ends limit offset =
-    let all : length bytes ≡ length taken + length rest = ap length took.known ∙ length-append taken rest in
-    let none = ap length ends in
-    inr (omega (arith, all, none, few))
 
 -- fewer bytes stood behind a wrapper than it tells
 pub short_awaits : (limit offset : ℕ) (left mid left' : Option (List ℕ)) (waited : Bool) (command : Cbw) → TookHead left mid command → Lacks mid left' (sent_length command) → offset ≤ limit → 31 + sent_length command ≤ limit - offset → AwaitsNoMore limit offset left waited

@@ -1,7 +1,7 @@
 use Rattle.std.proofs.Common.{rules, ◌≡◌, ◌∙◌, inl, sym, subst, arith, length, take}
 use Rattle.std.proofs.lemmas.List.{take_all}
 use Rattle.satl_io.specs.Known.{Took}
-use Rattle.satl_usb.proofs.ItemsLemmas.{bad_head, few_await}
+use Rattle.satl_usb.proofs.ItemsLemmas.{bad_head}
 use Rattle.satl_usb.proofs.items.read_head.Goals as goal
 
 pub returns-in-None-clause-missed : goal.returns-in-None-clause-missed
