@@ -1,13 +1,31 @@
 // The totals of an input that is served.
+ghost use Rattle.satl_disk.specs.Disk.{state_of};
+ghost use Rattle.satl_barrier.specs.Leaving.{IsFree};
+
 use crate::frames::{END, TURN, input, read, request, write};
 use crate::watched::{WatchedDrive, served};
 use satl_disk::ModelDrive;
 use satl_io::{MemorySink, MemorySource};
-use satl_serve::Form;
+use satl_serve::{Form, ServeFault};
 use satl_text::Summary;
+use std::alloc::Global;
 use std::marker::Brand;
 use std::sync::ledger::Blank;
 use std::test::Fail;
+
+/// How serving an input over this drive ends, answered in this form.
+fn served_on(
+    alloc: Global,
+    form: Form,
+    source: &mut MemorySource,
+    sink: &mut MemorySink,
+    drive: ModelDrive,
+) -> Result<Summary, ServeFault>
+    requires { IsFree (state_of drive) }
+{
+    let mut drive = WatchedDrive::new(drive);
+    served::<Brand>(alloc, form, source, sink, &mut drive, Blank::new(1))
+}
 
 /// A write and a read of a block, and a read beyond the capacity: the same totals in each form, and no byte where answers are
 /// counted.
@@ -31,15 +49,8 @@ fn totals(rt: HostRuntime) -> Result<(), Fail> {
         frames.extend_from_slice(&END)?;
         let mut source = MemorySource::new(frames, 4096, Vec::new(alloc));
         let mut sink = MemorySink::new(alloc, 65536, 4096, Vec::new(alloc))?;
-        let mut drive = WatchedDrive::new(ModelDrive::new(alloc, 8192)?);
-        let totals = served::<Brand>(
-            alloc,
-            form,
-            &mut source,
-            &mut sink,
-            &mut drive,
-            Blank::new(1),
-        )?;
+        let drive = ModelDrive::new(alloc, 8192)?;
+        let totals = served_on(alloc, form, &mut source, &mut sink, drive)?;
         assert_eq!(rt; totals, expected);
         assert_eq!(rt; sink.written().is_empty(), form == Form::Count);
     }
