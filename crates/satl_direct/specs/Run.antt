@@ -122,24 +122,38 @@ CutTurns (frames.Turn n) count = count ≤ n
 CutTurns frames.End count = Unit {0}
 CutTurns _ count = ⊥
 
--- an event that asks for turns was cut short behind one of them, be it the last (profile)
-pub record DoesShort (event : Frame) (s : Device) (answers : List Answer) (new : Device) : Type 0 where
+-- an event that asks for turns was cut short behind one of them, be it the last: the answers of the turns before that one, and
+-- its own (profile)
+pub record DoesShort (event : Frame) (s : Device) (earlier last : List Answer) (new : Device) : Type 0 where
   pub count : ℕ
-  pub some : 1 ≤ count
-  pub asked : CutTurns event count
-  pub replies : List Reply
+  pub asked : CutTurns event (suc count)
+  pub before : List Reply
+  pub mid : Device
   pub deep : ℕ
-  pub turns : TurnsOf count s replies new deep
-  pub answer : answers ≡ map replied replies
+  pub turns : TurnsOf count s before mid deep
+  pub earlier_are : earlier ≡ map replied before
+  pub replies : List Reply
+  pub turn : Around Turn mid replies new
+  pub last_are : last ≡ map replied replies
 
--- an event was carried out, or was cut short behind one of its turns (profile)
-pub data DoesInPart (event : Frame) (s : Device) (answers : List Answer) (new : Device) : Type 0 where
-  does_all : (deep : ℕ) → Does event s answers new deep → DoesInPart event s answers new
-  does_some : DoesShort event s answers new → DoesInPart event s answers new
+-- which answers of an event are those of its last step: at the end of an input what is told behind all turns, and of an event
+-- that asks for no turns all; a TURN has the answers of its last turn there where it is cut behind it (profile)
+abbrev pub IsLastStep : Frame → List Answer → List Answer → Type 0
+IsLastStep (frames.Turn n) earlier last = ⊥
+IsLastStep frames.End earlier last = last ≡ closed ∷ []
+IsLastStep _ earlier last = earlier ≡ []
 
--- a run, and one event more, which was carried out or cut short behind one of its turns (profile)
-pub data RunInPart (first : Device) : List Frame → List (List Answer) → ℕ → Device → Type 0 where
+-- an event was carried out, or was cut short behind one of its turns: the answers before its last step, and those of that step
+-- (profile)
+pub data DoesInPart (event : Frame) (s : Device) (earlier last : List Answer) (new : Device) : Type 0 where
+  does_all : (deep : ℕ) → Does event s (earlier ++ last) new deep → IsLastStep event earlier last
+      → DoesInPart event s earlier last new
+  does_some : DoesShort event s earlier last new → DoesInPart event s earlier last new
+
+-- a run, and one event more, which was carried out or cut short behind one of its turns: the groups of answers of the events
+-- before it, its own answers before its last step, and those of that step (profile)
+pub data RunInPart (first : Device) : List Frame → List (List Answer) → List Answer → List Answer → ℕ → Device → Type 0 where
   one_event_more : {events : List Frame} {groups : List (List Answer)} {losses deep : ℕ} {s new : Device} (event : Frame)
-      (now : List Answer)
-      → RunDeep first events groups losses s deep → DoesInPart event s now new
-      → RunInPart first (events ++ event ∷ []) (groups ++ now ∷ []) (losses + losses_in event s new) new
+      (earlier last : List Answer)
+      → RunDeep first events groups losses s deep → DoesInPart event s earlier last new
+      → RunInPart first (events ++ event ∷ []) groups earlier last (losses + losses_in event s new) new

@@ -47,7 +47,7 @@ module _ {D : Type 0} (f : D → DriveState) (ls : List Layer) (ds : List D) (k 
       did_at event written written' u = record { old = unit_state l (f d); new = unit_state l' (f d'); answers = u.answers; here = here; set = set_there; did = u.did; wrote = u.wrote }
 
       pub did_at_in_part : (event : Frame) (written written' : Option (List ℕ)) → UnitDidInPart k event (unit_state l (f d)) (unit_state l' (f d')) written written' → DidAtInPart k event (stage target_before written) (stage target_there written')
-      did_at_in_part event written written' u = record { old = unit_state l (f d); new = unit_state l' (f d'); answers = u.answers; here = here; set = set_there; did = u.did; part = u.part }
+      did_at_in_part event written written' u = record { old = unit_state l (f d); new = unit_state l' (f d'); cut = u.cut; here = here; set = set_there; did = u.did; told = u.told }
 
       pub keeps_there : AllByRecursion IsReady before → IsTiedUnit (unit_state l' (f d')) → KeepsUnits target_before target_there
       keeps_there all tied = record {
@@ -90,13 +90,13 @@ module _ (l mid : Layer) (d : DriveState) (same : record mid { free = 0; out = 0
 
   pub unit_did_in_part_lent : (k : ℕ) (event : Frame) (new : UnitState) (written written' : Option (List ℕ)) → UnitDidInPart k event (unit_state mid d) new written written' → UnitDidInPart k event (unit_state l d) new written written'
   unit_did_in_part_lent k event new written written' u = record {
-    answers = u.answers;
+    cut = u.cut;
     did = record {
-      does = subst (λ s. DoesInPart event s u.answers (device_of new)) device_lent u.did.does;
+      does = subst (λ s. DoesInPart event s u.cut.earlier u.cut.last (device_of new)) device_lent u.did.does;
       faults = subst (λ s. RoseBy (losses_in event s (device_of new)) d.faults new.drive.faults) device_lent u.did.faults;
       unplugs = u.did.unplugs;
       orders = u.did.orders;
       queue = u.did.queue;
     };
-    part = u.part;
+    told = u.told;
   }

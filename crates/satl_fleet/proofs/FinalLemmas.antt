@@ -68,7 +68,7 @@ module _ (limit units : ℕ) (before after : FleetMoment) (mids : List DriveStat
     breaks = r.breaks;
     cut = cut_so
         (λ run. served (r.rounds ++ r.round ∷ []) run)
-        (λ stop run. are_served_part (length before.drives) stop 0 r.rounds r.round ls' after.drives o each long run tied)
+        (λ stop cut run. are_served_part (length before.drives) stop cut 0 r.rounds r.round ls' after.drives o each long run tied)
         r.cut;
     calls = omega (arith, few, r.calls);
   }

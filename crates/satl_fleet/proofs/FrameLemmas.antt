@@ -12,7 +12,7 @@ use Rattle.satl_frame.specs.Output.{Answer, end_bytes}
 use Rattle.satl_frame.specs.Output.Answer.{replied}
 use Rattle.satl_frame.specs.declared.frames.Frame.{Frame}
 use Rattle.satl_frame.specs.declared.frames.Frame.TheVariants as frames
-use Rattle.satl_fleet.specs.Output.{end_told, named, round_told, target_told, told_from, told_under}
+use Rattle.satl_fleet.specs.Output.{all_of, end_told, named, round_told, target_told, told_from, told_under}
 use Rattle.satl_fleet.specs.Rounds.{AllDid, AllDidInPart, CallsNoneAt, DidAt, DidAtInPart, EachDid, IsTurnOrBench, NoneCalls, RoundDone, RoundInPart, Stage, Stops, round_of, silence, stage}
 use Rattle.satl_fleet.specs.Rounds.IsCut.{at_unit, behind_all}
 use Rattle.satl_fleet.specs.Routing.{is_for_all, is_report, lun_0, route_to, seen}
@@ -20,7 +20,7 @@ use Rattle.satl_fleet.specs.declared.routing.Route.{Route}
 use Rattle.satl_fleet.specs.Target.{target_reply}
 use Rattle.satl_fleet.specs.Serving.{Target}
 use Rattle.satl_fleet.specs.Units.{UnitState}
-use Rattle.satl_fleet.proofs.RoundLemmas.{all_pass, alone, alone_breaks, one_serves, one_stops, serves_all, stops_all, told_alone, told_silence}
+use Rattle.satl_fleet.proofs.RoundLemmas.{all_pass, alone, alone_breaks, one_serves, one_stops, serves_all, stops_all, told_alone, told_in_part, told_silence}
 
 -- ---- what it is to the units
 
@@ -79,7 +79,7 @@ module _ (units : ℕ) (frame : Frame) (quiet : target_told units frame ≡ []) 
     pub all_round_part : ((k : ℕ) → seen units k frame ≡ event ∷ []) → AllDidInPart event a b → RoundInPart units frame a b
     all_round_part each all = record {
       groups = all.groups;
-      cut = at_unit all.stop (stops_all units frame event each 0 all.stop all.did (omega arith)) all.breaks;
+      cut = at_unit all.stop all.cut (stops_all units frame event each 0 all.stop all.did (omega arith)) all.breaks;
       part = subst (WrotePart a.written b.written) (plain_told all.groups) all.part;
     }
 
@@ -92,13 +92,16 @@ module _ (units : ℕ) (frame : Frame) (quiet : target_told units frame ≡ []) 
       }
 
       pub one_round_part : DidAtInPart at event a b → RoundInPart units frame a b
-      one_round_part d = record {
-        groups = alone at d.answers a.target.units;
-        cut = at_unit at
-            (subst (λ ss. Stops units frame at 0 (alone at d.answers a.target.units) a.target.units ss) (sym d.set) (one_stops units frame event at here others d.answers d.old d.new 0 at a.target.units (omega arith) d.here d.did))
-            (alone_breaks at d.answers a.target.units d.old a.written b.written d.here d.part);
-        part = subst (WrotePart a.written b.written) (ap (λ n. told_under n d.answers) (omega arith) ∙ (sym (told_alone 0 at d.answers a.target.units d.old d.here) ∙ plain_told (alone at d.answers a.target.units))) d.part;
-      }
+      one_round_part d =
+          let answers = all_of d.cut in
+          record {
+            groups = alone at answers a.target.units;
+            cut = at_unit at d.cut
+                (subst (λ ss. Stops units frame at d.cut 0 (alone at answers a.target.units) a.target.units ss) (sym d.set) (one_stops units frame event at here others answers d.old d.new d.cut refl 0 at a.target.units (omega arith) d.here d.did))
+                (alone_breaks at d.cut a.target.units d.old a.written b.written d.here d.told);
+            part = subst (WrotePart a.written b.written) (ap (λ n. told_under n answers) (omega arith) ∙ (sym (told_alone 0 at answers a.target.units d.old d.here) ∙ plain_told (alone at answers a.target.units)))
+                (told_in_part at d.cut a.written b.written d.told);
+          }
 
 -- the target's own answer
 module _ (units : ℕ) (r : Request) (said : is_report r ≡ true) (t : Target) (written written' : Option (List ℕ)) where
@@ -140,7 +143,7 @@ module _ (units : ℕ) (a b : Stage) (written : Option (List ℕ)) where
 pub end_round_cut : (units : ℕ) (a b : Stage) → AllDidInPart frames.End a b → RoundInPart units frames.End a b
 end_round_cut units a b all = record {
   groups = all.groups;
-  cut = at_unit all.stop (stops_all units frames.End frames.End (λ k. refl) 0 all.stop all.did (omega arith)) all.breaks;
+  cut = at_unit all.stop all.cut (stops_all units frames.End frames.End (λ k. refl) 0 all.stop all.did (omega arith)) all.breaks;
   part = WrotePart-front end_bytes all.part;
 }
 

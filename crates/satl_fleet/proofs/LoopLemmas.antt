@@ -179,10 +179,10 @@ module _ (units : ℕ) where
           omega (arith, one, allowed_push (frame_calls units) (frames_of going.rounds) frame false);
       cut = cut_so
           (λ each. run_round units going.rounds frame done.groups 0 [] a.stage.target.units refl refl going.so_far.run each)
-          (λ stop stops. run_round_part units going.rounds frame done.groups stop 0 [] a.stage.target.units refl refl going.so_far.run stops)
+          (λ stop cut stops. run_round_part units going.rounds frame done.groups stop cut 0 [] a.stage.target.units refl refl going.so_far.run stops)
           done.cut;
     }
       where
-        is_round : IsCut units (round_of frame done.groups) b.stage.written c.stage.written (EachDid units frame 0 done.groups b.stage.target.units c.stage.target.units) (λ stop. Stops units frame stop 0 done.groups b.stage.target.units c.stage.target.units) → IsRoundOf units (round_of frame done.groups)
+        is_round : IsCut units (round_of frame done.groups) b.stage.written c.stage.written (EachDid units frame 0 done.groups b.stage.target.units c.stage.target.units) (λ stop cut. Stops units frame stop cut 0 done.groups b.stage.target.units c.stage.target.units) → IsRoundOf units (round_of frame done.groups)
         is_round (behind_all each breaks) = each_is_round units frame long each
-        is_round (at_unit stop stops breaks) = stops_is_round units frame long stops
+        is_round (at_unit stop cut stops breaks) = stops_is_round units frame long stops

@@ -6,7 +6,7 @@ use Rattle.satl_io.specs.Known.{Wrote, WrotePart}
 use Rattle.satl_io.proofs.Joined.{Wrote-more, Wrote-none, WrotePart-more}
 use Rattle.satl_frame.specs.Output.{Answer}
 use Rattle.satl_frame.specs.declared.frames.Frame.{Frame}
-use Rattle.satl_fleet.specs.Output.{IsRoundOf, told_from, told_under}
+use Rattle.satl_fleet.specs.Output.{CutAnswers, IsRoundOf, all_of, told_from, told_under}
 use Rattle.satl_fleet.specs.Rounds.{AllDid, AllDidInPart, BreaksAt, CallsNoneAt, DidAt, DidAtInPart, DidTo, DidToInPart, EachDid, Stage, Stops, round_of, silence}
 use Rattle.satl_fleet.specs.Rounds.DidTo.{rest, more}
 use Rattle.satl_fleet.specs.Rounds.DidToInPart.{here as part_here, later as part_later}
@@ -14,7 +14,8 @@ use Rattle.satl_fleet.specs.Rounds.EachDid.{none as no_unit, passes as unit_pass
 use Rattle.satl_fleet.specs.Rounds.Stops.{here as stop_here, passes as stop_passes, serves as stop_serves}
 use Rattle.satl_fleet.specs.Routing.{seen}
 use Rattle.satl_step.specs.Events.{CallsNone}
-use Rattle.satl_fleet.specs.Units.{Did, DidInPart, UnitState, device_of}
+use Rattle.satl_fleet.specs.Units.{Did, DidInPart, IsToldUnder, UnitState, device_of}
+use Rattle.satl_fleet.proofs.UnitLemmas.{last_behind}
 
 -- ---- telling
 
@@ -57,12 +58,17 @@ alone_at zero answers (s ∷ ss) old is = refl
 alone_at (suc j) answers (s ∷ ss) old is = alone_at j answers ss old is
 
 -- the output breaks off in its answers
-pub alone_breaks : (j : ℕ) (answers : List Answer) (ss : List UnitState) (old : UnitState) (before after : Option (List ℕ)) → slice_get ss j ≡ Some old → WrotePart before after (told_under j answers) → BreaksAt j (alone j answers ss) before after
-alone_breaks j answers ss old before after is part = record {
+pub alone_breaks : (j : ℕ) (cut : CutAnswers) (ss : List UnitState) (old : UnitState) (before after : Option (List ℕ)) → slice_get ss j ≡ Some old → IsToldUnder j cut before after → BreaksAt j cut (alone j (all_of cut) ss) before after
+alone_breaks j cut ss old before after is told = record {
+  its = alone_at j (all_of cut) ss old is;
   behind = before;
-  wrote = subst (Wrote before before) (sym (told_before_alone 0 j answers ss)) (Wrote-none before);
-  part = subst (λ l. WrotePart before after (told_under j l)) (sym (alone_at j answers ss old is)) part;
+  wrote = subst (Wrote before before) (sym (told_before_alone 0 j (all_of cut) ss)) (Wrote-none before);
+  told = told;
 }
+
+-- a front of all of them was told
+pub told_in_part : (k : ℕ) (cut : CutAnswers) (before after : Option (List ℕ)) → IsToldUnder k cut before after → WrotePart before after (told_under k (all_of cut))
+told_in_part k cut before after told = subst (WrotePart before after) (sym (last_behind k cut)) (WrotePart-more told.wrote told.part)
 
 -- ---- so many units
 
@@ -87,11 +93,11 @@ did_push : {event : Frame} {n : ℕ} {groups : List (List Answer)} {answers : Li
 did_push {olds = ss} rest is did = first_did ss is did
 did_push (more d to) is did = more d (did_push to is did)
 
-first_part : {event : Frame} {answers : List Answer} {old new : UnitState} (ss : List UnitState) → slice_get ss 0 ≡ Some old → DidInPart event old answers new → DidToInPart event 0 (answers ∷ silence (drop 1 ss)) ss (slice_set ss 0 new)
+first_part : {event : Frame} {cut : CutAnswers} {old new : UnitState} (ss : List UnitState) → slice_get ss 0 ≡ Some old → DidInPart event old cut new → DidToInPart event cut 0 (all_of cut ∷ silence (drop 1 ss)) ss (slice_set ss 0 new)
 first_part [] is did = absurd cc
-first_part {event} {answers} {old} {new} (s ∷ ss) is did = let same : old ≡ s = cc in subst (λ x. DidToInPart event 0 (answers ∷ silence ss) (x ∷ ss) (new ∷ ss)) same (part_here did)
+first_part {event} {cut} {old} {new} (s ∷ ss) is did = let same : old ≡ s = cc in subst (λ x. DidToInPart event cut 0 (all_of cut ∷ silence ss) (x ∷ ss) (new ∷ ss)) same (part_here did)
 
-part_push : {event : Frame} {n : ℕ} {groups : List (List Answer)} {answers : List Answer} {olds news : List UnitState} {old new : UnitState} → DidTo event n groups olds news → slice_get news n ≡ Some old → DidInPart event old answers new → DidToInPart event n (groups ++ answers ∷ silence (drop (suc n) olds)) olds (slice_set news n new)
+part_push : {event : Frame} {n : ℕ} {groups : List (List Answer)} {cut : CutAnswers} {olds news : List UnitState} {old new : UnitState} → DidTo event n groups olds news → slice_get news n ≡ Some old → DidInPart event old cut new → DidToInPart event cut n (groups ++ all_of cut ∷ silence (drop (suc n) olds)) olds (slice_set news n new)
 part_push {olds = ss} rest is did = first_part ss is did
 part_push (more d to) is did = part_later d (part_push to is did)
 
@@ -121,17 +127,22 @@ pub done_all : (event : Frame) (n : ℕ) (a b : Stage) → n ≡ length a.target
 done_all event n a b all done = record { groups = done.groups; did = subst (λ m. DidTo event m done.groups a.target.units b.target.units) all done.did; wrote = done.wrote }
 
 pub done_part : (event : Frame) (n : ℕ) (a b c : Stage) → DoneTo event n a b → DidAtInPart n event b c → AllDidInPart event a c
-done_part event n a b c done at = record {
-  stop = n;
-  groups = done.groups ++ at.answers ∷ silence (drop (suc n) a.target.units);
-  did = subst (DidToInPart event n (done.groups ++ at.answers ∷ silence (drop (suc n) a.target.units)) a.target.units) (sym at.set) (part_push done.did at.here at.did);
-  breaks = record {
-    behind = b.written;
-    wrote = subst (λ gs. Wrote a.written b.written (told_from 0 gs)) (sym (groups_before done.groups (at.answers ∷ silence (drop (suc n) a.target.units)) n (did_length done.did))) done.wrote;
-    part = subst (λ l. WrotePart b.written c.written (told_under n l)) (sym (group_at done.groups at.answers (silence (drop (suc n) a.target.units)) n (did_length done.did))) at.part;
-  };
-  part = subst (WrotePart a.written c.written) (place at.answers (drop (suc n) a.target.units) done.did) (WrotePart-more done.wrote at.part);
-}
+done_part event n a b c done at =
+    let answers = all_of at.cut in
+    let behind = silence (drop (suc n) a.target.units) in
+    record {
+      stop = n;
+      cut = at.cut;
+      groups = done.groups ++ answers ∷ behind;
+      did = subst (DidToInPart event at.cut n (done.groups ++ answers ∷ behind) a.target.units) (sym at.set) (part_push done.did at.here at.did);
+      breaks = record {
+        its = group_at done.groups answers behind n (did_length done.did);
+        behind = b.written;
+        wrote = subst (λ gs. Wrote a.written b.written (told_from 0 gs)) (sym (groups_before done.groups (answers ∷ behind) n (did_length done.did))) done.wrote;
+        told = at.told;
+      };
+      part = subst (WrotePart a.written c.written) (place answers (drop (suc n) a.target.units) done.did) (WrotePart-more done.wrote (told_in_part n at.cut b.written c.written at.told));
+    }
 
 -- the next unit is as before
 next_stays : {event : Frame} {n : ℕ} {groups : List (List Answer)} {olds news : List UnitState} → DidTo event n groups olds news → slice_get news n ≡ slice_get olds n
@@ -150,7 +161,7 @@ module _ (units : ℕ) (frame event : Frame) where
   serves_all each k {olds = s ∷ ss} rest all = absurd (omega (arith, all))
   serves_all each k (more did to) all = unit_serves event (each k) did (serves_all each (suc k) to (omega (arith, all)))
 
-  pub stops_all : ((k : ℕ) → seen units k frame ≡ event ∷ []) → (k stop : ℕ) {n : ℕ} {groups : List (List Answer)} {olds news : List UnitState} → DidToInPart event n groups olds news → stop ≡ k + n → Stops units frame stop k groups olds news
+  pub stops_all : ((k : ℕ) → seen units k frame ≡ event ∷ []) → {cut : CutAnswers} → (k stop : ℕ) {n : ℕ} {groups : List (List Answer)} {olds news : List UnitState} → DidToInPart event cut n groups olds news → stop ≡ k + n → Stops units frame stop cut k groups olds news
   stops_all each k stop (part_here did) is = stop_here event (omega (arith, is)) (each k) did
   stops_all each k stop (part_later did to) is = stop_serves event (each k) did (stops_all each (suc k) stop to (omega (arith, is)))
 
@@ -169,15 +180,16 @@ module _ (units : ℕ) (frame event : Frame) where
         (unit_serves event (subst (λ n. seen units n frame ≡ event ∷ []) now here) did (all_pass (suc k) ss (λ i le. others i (λ e. omega (arith, le, e, is)))))
     one_serves k (suc j) (s ∷ ss) is there did = unit_passes (others k (λ e. omega (arith, e, is))) (one_serves (suc k) j ss (omega (arith, is)) there did)
 
-    pub one_stops : (k j : ℕ) (ss : List UnitState) → at ≡ k + j → slice_get ss j ≡ Some old → DidInPart event old answers new → Stops units frame at k (alone j answers ss) ss (slice_set ss j new)
+    pub one_stops : (cut : CutAnswers) → answers ≡ all_of cut → (k j : ℕ) (ss : List UnitState) → at ≡ k + j → slice_get ss j ≡ Some old → DidInPart event old cut new → Stops units frame at cut k (alone j answers ss) ss (slice_set ss j new)
     unfolding alone
-    one_stops k j [] is there did = absurd cc
-    one_stops k zero (s ∷ ss) is there did =
+    one_stops cut are k j [] is there did = absurd cc
+    one_stops cut are k zero (s ∷ ss) is there did =
         let same : old ≡ s = cc in
         let now : at ≡ k = omega (arith, is) in
-        subst (λ x. Stops units frame at k (answers ∷ silence ss) (x ∷ ss) (new ∷ ss)) same
-        (stop_here event (sym now) (subst (λ n. seen units n frame ≡ event ∷ []) now here) did)
-    one_stops k (suc j) (s ∷ ss) is there did = stop_passes (others k (λ e. omega (arith, e, is))) (one_stops (suc k) j ss (omega (arith, is)) there did)
+        subst (λ l. Stops units frame at cut k (l ∷ silence ss) (s ∷ ss) (new ∷ ss)) (sym are)
+        (subst (λ x. Stops units frame at cut k (all_of cut ∷ silence ss) (x ∷ ss) (new ∷ ss)) same
+        (stop_here event (sym now) (subst (λ n. seen units n frame ≡ event ∷ []) now here) did))
+    one_stops cut are k (suc j) (s ∷ ss) is there did = stop_passes (others k (λ e. omega (arith, e, is))) (one_stops cut are (suc k) j ss (omega (arith, is)) there did)
 
 -- ---- who answers
 
@@ -210,12 +222,12 @@ module _ (units : ℕ) (frame : Frame) where
   each_silent k (suc j) (unit_serves event sees did others) none = each_silent (suc k) j others (further k j none)
 
   -- the same, up to a unit that did it in part
-  stops_length : {stop k : ℕ} {groups : List (List Answer)} {olds news : List UnitState} → Stops units frame stop k groups olds news → length groups ≡ length olds
+  stops_length : {stop : ℕ} {cut : CutAnswers} {k : ℕ} {groups : List (List Answer)} {olds news : List UnitState} → Stops units frame stop cut k groups olds news → length groups ≡ length olds
   stops_length (stop_here {ss = ss} event is sees did) = ap suc (length-map ss (λ _. []))
   stops_length (stop_passes unseen others) = ap suc (stops_length others)
   stops_length (stop_serves event sees did others) = ap suc (stops_length others)
 
-  stops_silent : (k j : ℕ) {stop : ℕ} {groups : List (List Answer)} {olds news : List UnitState} → Stops units frame stop k groups olds news → seen units (k + j) frame ≡ [] → slice_index_or groups j [] ≡ []
+  stops_silent : {cut : CutAnswers} → (k j : ℕ) {stop : ℕ} {groups : List (List Answer)} {olds news : List UnitState} → Stops units frame stop cut k groups olds news → seen units (k + j) frame ≡ [] → slice_index_or groups j [] ≡ []
   stops_silent k zero (stop_here event is sees did) none = both k event sees none
   stops_silent k (suc j) (stop_here {ss = ss} event is sees did) none = silent_at ss j
   stops_silent k zero (stop_passes unseen others) none = refl
@@ -226,5 +238,5 @@ module _ (units : ℕ) (frame : Frame) where
   pub each_is_round : {groups : List (List Answer)} {olds news : List UnitState} → length olds ≡ units → EachDid units frame 0 groups olds news → IsRoundOf units (round_of frame groups)
   each_is_round long each = record { one_each = each_length each ∙ long; unseen_silent = λ k none. each_silent 0 k each (subst (λ n. seen units n frame ≡ []) (omega arith) none) }
 
-  pub stops_is_round : {stop : ℕ} {groups : List (List Answer)} {olds news : List UnitState} → length olds ≡ units → Stops units frame stop 0 groups olds news → IsRoundOf units (round_of frame groups)
+  pub stops_is_round : {stop : ℕ} {cut : CutAnswers} {groups : List (List Answer)} {olds news : List UnitState} → length olds ≡ units → Stops units frame stop cut 0 groups olds news → IsRoundOf units (round_of frame groups)
   stops_is_round long stops = record { one_each = stops_length stops ∙ long; unseen_silent = λ k none. stops_silent 0 k stops (subst (λ n. seen units n frame ≡ []) (omega arith) none) }

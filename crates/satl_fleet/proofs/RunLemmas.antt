@@ -15,7 +15,7 @@ use Rattle.satl_step.specs.Events.{unplugs_behind}
 use Rattle.satl_step.specs.Runs.{KeepsDeepest, is_unplug, orders_behind, tally_of}
 use Rattle.satl_direct.specs.Run.RunInPart.{one_event_more}
 use Rattle.satl_step.proofs.RunLemmas.{Counts, counts_more, orders_more, unplugs_one}
-use Rattle.satl_fleet.specs.Output.{NoAnswersBehind, Round, frames_of, group_of, groups_for}
+use Rattle.satl_fleet.specs.Output.{CutAnswers, NoAnswersBehind, Round, all_of, frames_of, group_of, groups_for}
 use Rattle.satl_fleet.specs.Rounds.{EachDid, IsCut, Stops, round_of, silence}
 use Rattle.satl_fleet.specs.Rounds.IsCut.{at_unit, behind_all}
 use Rattle.satl_fleet.specs.Rounds.EachDid.{none as no_unit, passes as unit_passes, serves as unit_serves}
@@ -50,10 +50,10 @@ module _ (first : UnitStand) (events : List Frame) (groups : List (List Answer))
     counted = counted_more events r.losses (losses_in event (device_of s) (device_of new)) first.drive s.drive new.drive event r.counted did.faults did.unplugs did.orders did.queue;
   }
 
-  ran_in_part : DidInPart event s answers new → UnitRanInPart first (events ++ event ∷ []) (groups ++ answers ∷ []) (unit_stand_of new)
-  ran_in_part did = record {
+  ran_in_part : (cut : CutAnswers) → DidInPart event s cut new → UnitRanInPart first (events ++ event ∷ []) groups cut (unit_stand_of new)
+  ran_in_part cut did = record {
     losses = r.losses + losses_in event (device_of s) (device_of new);
-    run = one_event_more event answers r.run did.does;
+    run = one_event_more event cut.earlier cut.last r.run did.does;
     counted = counted_more events r.losses (losses_in event (device_of s) (device_of new)) first.drive s.drive new.drive event r.counted did.faults did.unplugs did.orders did.queue;
   }
 
@@ -100,8 +100,8 @@ module _ (units k : ℕ) (rounds : List Round) (round : Round) where
       ran_on : Did event s answers new → RanRounds units k (rounds ++ round ∷ []) first (unit_stand_of new)
       ran_on did = subst (λ gs. UnitRan first (project units k (frames_of (rounds ++ round ∷ []))) gs (unit_stand_of new)) (groups_one event answers sees here) (subst (λ es. UnitRan first es (old_groups ++ answers ∷ []) (unit_stand_of new)) (events_one event sees) (ran_more first old_events old_groups s new event answers r did))
 
-      ran_cut : DidInPart event s answers new → RanRoundsInPart units k (rounds ++ round ∷ []) first (unit_stand_of new)
-      ran_cut did = subst (λ gs. UnitRanInPart first (project units k (frames_of (rounds ++ round ∷ []))) gs (unit_stand_of new)) (groups_one event answers sees here) (subst (λ es. UnitRanInPart first es (old_groups ++ answers ∷ []) (unit_stand_of new)) (events_one event sees) (ran_in_part first old_events old_groups s new event answers r did))
+    ran_cut : (event : Frame) (cut : CutAnswers) (new : UnitState) → seen units k round.frame ≡ event ∷ [] → DidInPart event s cut new → RanRoundsInPart units k rounds round cut first (unit_stand_of new)
+    ran_cut event cut new sees did = subst (λ es. UnitRanInPart first es old_groups cut (unit_stand_of new)) (events_one event sees) (ran_in_part first old_events old_groups s new event (all_of cut) r cut did)
 
 -- the groups behind it, where those units are silent
 silent_behind : (before : List (List Answer)) (answers : List Answer) (ss : List UnitState) (j : ℕ) → length before < j → slice_index_or (before ++ answers ∷ silence ss) j [] ≡ []
@@ -135,23 +135,23 @@ module _ (units : ℕ) (rounds : List Round) (frame : Frame) (groups : List (Lis
   run_round k before {behind = g ∷ gs} (a ∷ starts) {olds = s ∷ ss} {news = w ∷ ws} is long run (unit_serves event sees did others) =
       (ran_on units k rounds whole (unit_stand_of a) s run.0 event g w sees (here_is before g gs k is long) did, run_round (suc k) (before ++ g ∷ []) starts (next_split before g gs is) (next_length before g k long) run.1 others)
 
-  pub run_round_part : (stop k : ℕ) (before : List (List Answer)) {behind : List (List Answer)} (starts : List UnitState) {olds news : List UnitState} → groups ≡ before ++ behind → length before ≡ k → HaveRun units k rounds starts olds → Stops units frame stop k behind olds news → HaveRunInPart units rounds whole stop k starts news
-  run_round_part stop k before [] is long run (stop_here event at sees did) = absurd run
-  run_round_part stop k before {behind = g ∷ gs} (a ∷ starts) {olds = s ∷ ss} {news = w ∷ ws} is long run (stop_here event at sees did) =
-      run_here event at sees (none_behind before g ss k is long) (ran_cut units k rounds whole (unit_stand_of a) s run.0 event g w sees (here_is before g gs k is long) did) run.1
-  run_round_part stop k before [] is long run (stop_passes unseen others) = absurd run
-  run_round_part stop k before {behind = g ∷ gs} (a ∷ starts) {olds = s ∷ ss} is long run (stop_passes unseen others) =
-      run_later (ran_past units k rounds whole (unit_stand_of a) s run.0 unseen) (run_round_part stop (suc k) (before ++ g ∷ []) starts (next_split before g gs is) (next_length before g k long) run.1 others)
-  run_round_part stop k before [] is long run (stop_serves event sees did others) = absurd run
-  run_round_part stop k before {behind = g ∷ gs} (a ∷ starts) {olds = s ∷ ss} {news = w ∷ ws} is long run (stop_serves event sees did others) =
-      run_later (ran_on units k rounds whole (unit_stand_of a) s run.0 event g w sees (here_is before g gs k is long) did) (run_round_part stop (suc k) (before ++ g ∷ []) starts (next_split before g gs is) (next_length before g k long) run.1 others)
-  run_round_part stop k before {behind = []} (a ∷ starts) {olds = olds} {news = news} is long run each = elim each [ ]
-  run_round_part stop k before {behind = g ∷ gs} (a ∷ starts) {olds = []} {news = news} is long run each = absurd run
+  pub run_round_part : (stop : ℕ) (cut : CutAnswers) (k : ℕ) (before : List (List Answer)) {behind : List (List Answer)} (starts : List UnitState) {olds news : List UnitState} → groups ≡ before ++ behind → length before ≡ k → HaveRun units k rounds starts olds → Stops units frame stop cut k behind olds news → HaveRunInPart units rounds whole stop cut k starts news
+  run_round_part stop cut k before [] is long run (stop_here event at sees did) = absurd run
+  run_round_part stop cut k before {behind = g ∷ gs} (a ∷ starts) {olds = s ∷ ss} {news = w ∷ ws} is long run (stop_here event at sees did) =
+      run_here event at sees (none_behind before g ss k is long) (ran_cut units k rounds whole (unit_stand_of a) s run.0 event cut w sees did) run.1
+  run_round_part stop cut k before [] is long run (stop_passes unseen others) = absurd run
+  run_round_part stop cut k before {behind = g ∷ gs} (a ∷ starts) {olds = s ∷ ss} is long run (stop_passes unseen others) =
+      run_later (ran_past units k rounds whole (unit_stand_of a) s run.0 unseen) (run_round_part stop cut (suc k) (before ++ g ∷ []) starts (next_split before g gs is) (next_length before g k long) run.1 others)
+  run_round_part stop cut k before [] is long run (stop_serves event sees did others) = absurd run
+  run_round_part stop cut k before {behind = g ∷ gs} (a ∷ starts) {olds = s ∷ ss} {news = w ∷ ws} is long run (stop_serves event sees did others) =
+      run_later (ran_on units k rounds whole (unit_stand_of a) s run.0 event g w sees (here_is before g gs k is long) did) (run_round_part stop cut (suc k) (before ++ g ∷ []) starts (next_split before g gs is) (next_length before g k long) run.1 others)
+  run_round_part stop cut k before {behind = []} (a ∷ starts) {olds = olds} {news = news} is long run each = elim each [ ]
+  run_round_part stop cut k before {behind = g ∷ gs} (a ∷ starts) {olds = []} {news = news} is long run each = absurd run
 
 -- a round that was cut, told of other units' states
-pub cut_so : {units : ℕ} {round : Round} {before after : Option (List ℕ)} {All All' : Type 0} {UpTo UpTo' : ℕ → Type 0} → (All → All') → ((stop : ℕ) → UpTo stop → UpTo' stop) → IsCut units round before after All UpTo → IsCut units round before after All' UpTo'
+pub cut_so : {units : ℕ} {round : Round} {before after : Option (List ℕ)} {All All' : Type 0} {UpTo UpTo' : ℕ → CutAnswers → Type 0} → (All → All') → ((stop : ℕ) (cut : CutAnswers) → UpTo stop cut → UpTo' stop cut) → IsCut units round before after All UpTo → IsCut units round before after All' UpTo'
 cut_so all up_to (behind_all is breaks) = behind_all (all is) breaks
-cut_so all up_to (at_unit stop is breaks) = at_unit stop (up_to stop is) breaks
+cut_so all up_to (at_unit stop cut is breaks) = at_unit stop cut (up_to stop cut is) breaks
 
 -- no round
 pub run_none : (units k : ℕ) (ss : List UnitState) → AllByRecursion HasNoTask ss → HaveRun units k [] ss ss

@@ -12,7 +12,7 @@ use Rattle.satl_serve.proofs.ServingLemmas.{first_of, left_as}
 use Rattle.satl_step.specs.Runs.{orders_behind_all, unplugs_in}
 use Rattle.satl_fleet.specs.Opening.{Opens, OpensTo}
 use Rattle.satl_fleet.specs.Opening.OpensTo.{rest, more}
-use Rattle.satl_fleet.specs.Output.{Round, frames_of, groups_for}
+use Rattle.satl_fleet.specs.Output.{CutAnswers, Round, frames_of, groups_for}
 use Rattle.satl_fleet.specs.Routing.{project}
 use Rattle.satl_fleet.specs.Runs.{AreServed, AreServedInPart, HaveRun, HaveRunInPart, RanRounds, RanRoundsInPart, UnitCounted, UnitRan, UnitRanInPart, UnitServed, unit_stand}
 use Rattle.satl_fleet.specs.Runs.AreServedInPart.{here as served_here, later as served_later}
@@ -38,8 +38,8 @@ module _ (old mid new : DriveState) (stays : mid ≡ record old { cells = mid.ce
   sooner : (first last : Device) (events : List Frame) (groups : List (List Answer)) → UnitRan (unit_stand first mid) events groups (unit_stand last new) → UnitRan (unit_stand first old) events groups (unit_stand last new)
   sooner first last events groups r = record { losses = r.losses; deep = r.deep; run = r.run; deepest = r.deepest; counted = sooner_counted events r.losses r.counted }
 
-  sooner_part : (first last : Device) (events : List Frame) (groups : List (List Answer)) → UnitRanInPart (unit_stand first mid) events groups (unit_stand last new) → UnitRanInPart (unit_stand first old) events groups (unit_stand last new)
-  sooner_part first last events groups r = record { losses = r.losses; run = r.run; counted = sooner_counted events r.losses r.counted }
+  sooner_part : (first last : Device) (events : List Frame) (groups : List (List Answer)) (cut : CutAnswers) → UnitRanInPart (unit_stand first mid) events groups cut (unit_stand last new) → UnitRanInPart (unit_stand first old) events groups cut (unit_stand last new)
+  sooner_part first last events groups cut r = record { losses = r.losses; run = r.run; counted = sooner_counted events r.losses r.counted }
 
 -- ---- one unit
 
@@ -54,12 +54,12 @@ module _ (units k : ℕ) (rounds : List Round) (old mid new : DriveState) (l l' 
     queue = record { given = given_by l'; queue = tied.queue.queue };
   }
 
-  unit_served_part : RanRoundsInPart units k rounds (unit_stand (view l mid) mid) (unit_stand (view l' new) new) → UnitServed (RanRoundsInPart units k rounds) old new
-  unit_served_part r = record {
+  unit_served_part : (round : Round) (cut : CutAnswers) → RanRoundsInPart units k rounds round cut (unit_stand (view l mid) mid) (unit_stand (view l' new) new) → UnitServed (RanRoundsInPart units k rounds round cut) old new
+  unit_served_part round cut r = record {
     first = view l mid;
     last = view l' new;
     begins = first_of old mid l o.opened;
-    run = sooner_part old mid new o.opened.stays (view l mid) (view l' new) (project units k (frames_of rounds)) (groups_for units k rounds) r;
+    run = sooner_part old mid new o.opened.stays (view l mid) (view l' new) (project units k (frames_of (rounds ++ round ∷ []))) (groups_for units k rounds) cut r;
     ends = left_as l' new tied.tied;
     queue = record { given = given_by l'; queue = tied.queue.queue };
   }
@@ -82,11 +82,11 @@ module _ (units : ℕ) where
   are_served k rounds {olds = d ∷ ds} {mids = m ∷ ms} {ls = l ∷ ls} (x ∷ xs) (w ∷ ws) (more o os) each long run tied =
       (unit_served units k rounds d m w l x o tied.0 run.0, are_served (suc k) rounds xs ws os (omega (arith, each)) (omega (arith, long)) run.1 tied.1)
 
-  pub are_served_part : (stop k : ℕ) (rounds : List Round) (round : Round) {olds mids : List DriveState} {ls : List Layer} (ls' : List Layer) (news : List DriveState) → OpensTo olds ls mids → length ls ≡ length olds → length ls' ≡ length news → HaveRunInPart units rounds round stop k (unit_states ls mids) (unit_states ls' news) → AllByRecursion IsTiedUnit (unit_states ls' news) → AreServedInPart units rounds round stop k olds news
-  are_served_part stop k rounds round {olds = d ∷ ds} {mids = m ∷ ms} {ls = l ∷ ls} (x ∷ xs) (w ∷ ws) (more o os) each long (run_here event at sees behind r others) tied =
-      served_here event at sees behind (unit_served_part units k (rounds ++ round ∷ []) d m w l x o tied.0 r) (are_served (suc k) rounds xs ws os (omega (arith, each)) (omega (arith, long)) others tied.1)
-  are_served_part stop k rounds round {olds = d ∷ ds} {mids = m ∷ ms} {ls = l ∷ ls} (x ∷ xs) (w ∷ ws) (more o os) each long (run_later r others) tied =
-      served_later (unit_served units k (rounds ++ round ∷ []) d m w l x o tied.0 r) (are_served_part stop (suc k) rounds round xs ws os (omega (arith, each)) (omega (arith, long)) others tied.1)
-  are_served_part stop k rounds round ls' news rest each long run tied = elim run [ ]
-  are_served_part stop k rounds round [] news (more o os) each long run tied = elim run [ ]
-  are_served_part stop k rounds round (x ∷ xs) [] (more o os) each long run tied = elim run [ ]
+  pub are_served_part : (stop : ℕ) (cut : CutAnswers) (k : ℕ) (rounds : List Round) (round : Round) {olds mids : List DriveState} {ls : List Layer} (ls' : List Layer) (news : List DriveState) → OpensTo olds ls mids → length ls ≡ length olds → length ls' ≡ length news → HaveRunInPart units rounds round stop cut k (unit_states ls mids) (unit_states ls' news) → AllByRecursion IsTiedUnit (unit_states ls' news) → AreServedInPart units rounds round stop cut k olds news
+  are_served_part stop cut k rounds round {olds = d ∷ ds} {mids = m ∷ ms} {ls = l ∷ ls} (x ∷ xs) (w ∷ ws) (more o os) each long (run_here event at sees behind r others) tied =
+      served_here event at sees behind (unit_served_part units k rounds d m w l x o tied.0 round cut r) (are_served (suc k) rounds xs ws os (omega (arith, each)) (omega (arith, long)) others tied.1)
+  are_served_part stop cut k rounds round {olds = d ∷ ds} {mids = m ∷ ms} {ls = l ∷ ls} (x ∷ xs) (w ∷ ws) (more o os) each long (run_later r others) tied =
+      served_later (unit_served units k (rounds ++ round ∷ []) d m w l x o tied.0 r) (are_served_part stop cut (suc k) rounds round xs ws os (omega (arith, each)) (omega (arith, long)) others tied.1)
+  are_served_part stop cut k rounds round ls' news rest each long run tied = elim run [ ]
+  are_served_part stop cut k rounds round [] news (more o os) each long run tied = elim run [ ]
+  are_served_part stop cut k rounds round (x ∷ xs) [] (more o os) each long run tied = elim run [ ]

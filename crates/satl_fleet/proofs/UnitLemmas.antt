@@ -1,19 +1,19 @@
 -- What a unit did, of what its step says.
-use Rattle.std.proofs.Common.{◌≡◌, ◌⊎◌, inl, inr, append_assoc, refl, ap, subst, ◌∙◌, ℕ, Bool, true, false, List, [], ◌∷◌, ◌++◌, not}
+use Rattle.std.proofs.Common.{◌≡◌, append_assoc, refl, sym, ap, subst, ◌∙◌, ℕ, Bool, true, false, List, [], ◌∷◌, ◌++◌, drop, length, not}
+use Rattle.std.proofs.Math.Seq.{drop-append_seam}
 use Rattle.std.specs.Prelude.{Option, Result, Ok, Err, if◌then◌else◌}
 use Rattle.satl_io.specs.Known.{Wrote, WrotePart}
 use Rattle.satl_frame.specs.Output.{Answer, all_answered, answer_bytes}
 use Rattle.satl_frame.specs.declared.frames.Frame.{Frame}
 use Rattle.satl_drive.specs.State.{DriveState}
 use Rattle.satl_core.specs.Layer.{Layer}
-use Rattle.satl_step.specs.Events.{Carried, Done, DoneInPart, IsTallied, IsWholeOf, Scene, scene_of}
-use Rattle.satl_direct.specs.Run.{DoesInPart, DoesShort}
+use Rattle.satl_step.specs.Events.{Carried, CarriedInPart, Done, DoneInPart, IsTallied, IsWholeOf, Scene, scene_of}
 use Rattle.satl_step.specs.Runs.{stand_of}
-use Rattle.satl_direct.specs.Run.DoesInPart.{does_all, does_some}
 use Rattle.satl_step.specs.Serving.{WholeOrInPart}
-use Rattle.satl_step.specs.Telling.{all_told}
-use Rattle.satl_step.proofs.RunLemmas.{asked_whole, tallied_whole}
-use Rattle.satl_fleet.specs.Output.{is_left_out, kept, named, named_behind, told_one, told_under, unit_bytes}
+use Rattle.satl_step.specs.Telling.{all_behind, all_told}
+use Rattle.satl_step.proofs.RunLemmas.{in_part, tallied_whole}
+use Rattle.satl_step.proofs.TellingLemmas.{all_told-append}
+use Rattle.satl_fleet.specs.Output.{CutAnswers, all_of, is_left_out, kept, named, named_behind, told_last, told_one, told_under, unit_bytes}
 use Rattle.satl_fleet.specs.Units.{Did, DidInPart, UnitDid, UnitDidInPart, device_of, unit_state}
 use Rattle.satl_fleet.specs.declared.telling.UnitTeller.{UnitTeller}
 
@@ -46,6 +46,21 @@ unnamed_told k (answer ∷ answers) =
       | false ↦ append_assoc (unit_bytes k) (answer_bytes answer) (all_told by behind (teller k true) answers) ∙ ap (λ l. unit_bytes k ++ (answer_bytes answer ++ l)) (named_told k answers)
     ])
 
+-- the answers of the last step, behind the earlier ones
+both_told : (k : ℕ) (cut : CutAnswers) → told_under k (all_of cut) ≡ told_under k cut.earlier ++ all_told by behind (all_behind behind (teller k false) cut.earlier) cut.last
+both_told k cut =
+    sym (unnamed_told k (all_of cut))
+    ∙ (all_told-append by behind (teller k false) cut.earlier cut.last
+    ∙ ap (λ l. l ++ all_told by behind (all_behind behind (teller k false) cut.earlier) cut.last) (unnamed_told k cut.earlier))
+
+last_is_told : (k : ℕ) (cut : CutAnswers) → told_last k cut ≡ all_told by behind (all_behind behind (teller k false) cut.earlier) cut.last
+last_is_told k cut =
+    let behind_them = all_told by behind (all_behind behind (teller k false) cut.earlier) cut.last in
+    ap (λ l. drop (length (told_under k cut.earlier)) l) (both_told k cut) ∙ drop-append_seam (told_under k cut.earlier) behind_them
+
+pub last_behind : (k : ℕ) (cut : CutAnswers) → told_under k (all_of cut) ≡ told_under k cut.earlier ++ told_last k cut
+last_behind k cut = both_told k cut ∙ ap (λ l. told_under k cut.earlier ++ l) (sym (last_is_told k cut))
+
 -- ---- doing
 
 -- what was counted, however an event ended
@@ -59,14 +74,16 @@ module _ (l l' : Layer) (d d' : DriveState) (calls calls' : ℕ) (event whole : 
       let t = tallied_whole is.room (stand_of l d calls) (stand_of l' d' calls') event whole is.cut tallied in
       record { deep = carried.deep; does = carried.does whole is; covered = carried.covered; faults = t.faults; unplugs = t.unplugs; orders = t.orders; queue = record { rises = t.queue.rises; covers = t.queue.covers } }
 
-  does_part : (answers : List Answer) → Carried event (stand_of l d calls) answers (stand_of l' d' calls') ⊎ DoesShort event (device_of (unit_state l d)) answers (device_of (unit_state l' d')) → DoesInPart whole (device_of (unit_state l d)) answers (device_of (unit_state l' d'))
-  does_part answers (inl carried) = does_all carried.deep (carried.does whole is)
-  does_part answers (inr short) = does_some (record { count = short.count; some = short.some; asked = asked_whole is.room short.count event whole is.cut short.asked; replies = short.replies; deep = short.deep; turns = short.turns; answer = short.answer })
-
-  did_in_part : (answers : List Answer) → IsTallied event (stand_of l d calls) (stand_of l' d' calls') → Carried event (stand_of l d calls) answers (stand_of l' d' calls') ⊎ DoesShort event (device_of (unit_state l d)) answers (device_of (unit_state l' d')) → DidInPart whole (unit_state l d) answers (unit_state l' d')
-  did_in_part answers tallied done =
+  did_in_part : (cut : CutAnswers) → IsTallied event (stand_of l d calls) (stand_of l' d' calls') → CarriedInPart event (stand_of l d calls) cut.earlier cut.last (stand_of l' d' calls') → DidInPart whole (unit_state l d) cut (unit_state l' d')
+  did_in_part cut tallied done =
       let t = tallied_whole is.room (stand_of l d calls) (stand_of l' d' calls') event whole is.cut tallied in
-      record { does = does_part answers done; faults = t.faults; unplugs = t.unplugs; orders = t.orders; queue = record { rises = t.queue.rises; covers = t.queue.covers } }
+      record {
+        does = in_part event whole (stand_of l d calls) (stand_of l' d' calls') cut.earlier cut.last is done;
+        faults = t.faults;
+        unplugs = t.unplugs;
+        orders = t.orders;
+        queue = record { rises = t.queue.rises; covers = t.queue.covers };
+      }
 
   module _ (k : ℕ) (first last : UnitTeller) (fresh : first ≡ record { unit = k; named = false }) (written written' : Option (List ℕ)) where
     pub unit_did : Done by behind event (scene_of l d calls first written) (scene_of l' d' calls' last written') → UnitDid k whole (unit_state l d) (unit_state l' d') written written'
@@ -77,8 +94,16 @@ module _ (l l' : Layer) (d d' : DriveState) (calls calls' : ℕ) (event whole : 
     }
 
     pub unit_did_in_part : DoneInPart by behind event (scene_of l d calls first written) (scene_of l' d' calls' last written') → UnitDidInPart k whole (unit_state l d) (unit_state l' d') written written'
-    unit_did_in_part done = record {
-      answers = done.answers;
-      did = did_in_part done.answers done.tallied done.carried;
-      part = subst (WrotePart written written') (ap (λ t. all_told by behind t done.answers) fresh ∙ unnamed_told k done.answers) done.told_so.part;
-    }
+    unit_did_in_part done =
+        let cut : CutAnswers = record { earlier = done.earlier; last = done.last } in
+        let mid = done.told_so.mid in
+        let at = done.told_so.whole.teller ∙ ap (λ t. all_behind behind t done.earlier) fresh in
+        record {
+          cut = cut;
+          did = did_in_part cut done.tallied done.carried;
+          told = record {
+            behind = mid.written;
+            wrote = subst (Wrote written mid.written) (ap (λ t. all_told by behind t done.earlier) fresh ∙ unnamed_told k done.earlier) done.told_so.whole.wrote;
+            part = subst (WrotePart mid.written written') (ap (λ t. all_told by behind t done.last) at ∙ sym (last_is_told k cut)) done.told_so.front.part;
+          };
+        }

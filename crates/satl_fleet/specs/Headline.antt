@@ -113,7 +113,7 @@ pub record BrokeInRound (limit : ℕ) (before after : FleetMoment) : Type 0 wher
   pub breaks : BreaksInRound (terms limit (length before.drives)) (streams_at before) (streams_at after) rounds round
   pub cut : IsCut (length before.drives) round breaks.behind after.sink.written
       (AreServed (length before.drives) 0 (rounds ++ round ∷ []) before.drives after.drives)
-      (λ stop. AreServedInPart (length before.drives) rounds round stop 0 before.drives after.drives)
+      (λ stop cut. AreServedInPart (length before.drives) rounds round stop cut 0 before.drives after.drives)
   pub calls : HasFewCalls (frames_of rounds ++ round.frame ∷ []) before after
 
 -- rounds were served, and a write failed in what tells that what follows is refused (profile)

@@ -84,7 +84,7 @@ pub record StoppedInRound (units : ℕ) (before after : LoopState) : Type 0 wher
   pub part : WrotePart mid.stage.written after.stage.written (round_told units round)
   pub cut : IsCut units round mid.stage.written after.stage.written
       (HaveRun units 0 (going.rounds ++ round ∷ []) before.stage.target.units after.stage.target.units)
-      (λ stop. HaveRunInPart units going.rounds round stop 0 before.stage.target.units after.stage.target.units)
+      (λ stop cut. HaveRunInPart units going.rounds round stop cut 0 before.stage.target.units after.stage.target.units)
   pub calls : after.calls ≤ before.calls + calls_allowed (frame_calls units) (frames_of going.rounds ++ round.frame ∷ []) false
 
 -- by why frames are carried out no further (profile)

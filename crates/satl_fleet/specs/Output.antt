@@ -1,6 +1,6 @@
 -- How the answers of a target's units are written, in one output (profile).
 use Rattle.std.specs.Prelude.{◌≡◌, ℕ, suc, ◌<◌, ◌==◌, ◌&&◌, ◌||◌, not, Bool, true, false, if◌then◌else◌}
-use Rattle.std.specs.Prelude.{List, [], ◌∷◌, ◌++◌, length, map, slice_index_or}
+use Rattle.std.specs.Prelude.{List, [], ◌∷◌, ◌++◌, drop, length, map, slice_index_or}
 use Rattle.std.specs.List.{flat_map}
 use Rattle.satl_unit.specs.Functions.{nexus_reset_code}
 use Rattle.satl_frame.specs.declared.frames.Frame.{Frame}
@@ -38,6 +38,18 @@ named k (answer ∷ answers) = unit_bytes k ++ all_answered (answer ∷ answers)
 -- a unit's answers to one frame (profile)
 abbrev pub told_under : ℕ → List Answer → List ℕ
 told_under k answers = named k (kept k answers)
+
+-- a unit's answers to a frame at which a write failed: those before its last step, and those of that step (profile)
+pub record CutAnswers : Type 0 where
+  pub earlier : List Answer
+  pub last : List Answer
+
+abbrev pub all_of : CutAnswers → List Answer
+all_of cut = cut.earlier ++ cut.last
+
+-- what is told of the last step behind the earlier ones (profile)
+abbrev pub told_last : ℕ → CutAnswers → List ℕ
+told_last k cut = drop (length (told_under k cut.earlier)) (told_under k (all_of cut))
 
 -- the answers of the units from this one on to one frame, in order of the units (profile)
 abbrev pub told_from : ℕ → List (List Answer) → List ℕ

@@ -8,7 +8,7 @@ use Rattle.satl_direct.specs.Device.{Device}
 use Rattle.satl_direct.specs.Run.{RunDeep, RunInPart}
 use Rattle.satl_serve.specs.Runs.{IsFirstDevice, IsLeftAs, KeepsQueue}
 use Rattle.satl_step.specs.Runs.{orders_behind_all, unplugs_in}
-use Rattle.satl_fleet.specs.Output.{NoAnswersBehind, Round, frames_of, groups_for}
+use Rattle.satl_fleet.specs.Output.{CutAnswers, NoAnswersBehind, Round, frames_of, groups_for}
 use Rattle.satl_fleet.specs.Routing.{project, seen}
 use Rattle.satl_fleet.specs.Units.{UnitState, device_of}
 use Rattle.satl_base.specs.Lists.{EachAt}
@@ -46,20 +46,21 @@ pub record UnitRan (first : UnitStand) (events : List Frame) (groups : List (Lis
   pub deepest : deep ≤ last.drive.deepest
   pub counted : UnitCounted events losses first.drive last.drive
 
--- the same, and the last event was carried out or cut short behind one of its turns (profile)
-pub record UnitRanInPart (first : UnitStand) (events : List Frame) (groups : List (List Answer))
+-- the same, and the last event was carried out or cut short behind one of its turns, with these answers (profile)
+pub record UnitRanInPart (first : UnitStand) (events : List Frame) (groups : List (List Answer)) (cut : CutAnswers)
     (last : UnitStand) : Type 0 where
   pub losses : ℕ
-  pub run : RunInPart first.device events groups losses last.device
+  pub run : RunInPart first.device events groups cut.earlier cut.last losses last.device
   pub counted : UnitCounted events losses first.drive last.drive
 
 -- so did a unit in rounds (profile)
 abbrev pub RanRounds : ℕ → ℕ → List Round → UnitStand → UnitStand → Type 0
 RanRounds units k rounds first last = UnitRan first (project units k (frames_of rounds)) (groups_for units k rounds) last
 
-abbrev pub RanRoundsInPart : ℕ → ℕ → List Round → UnitStand → UnitStand → Type 0
-RanRoundsInPart units k rounds first last =
-    UnitRanInPart first (project units k (frames_of rounds)) (groups_for units k rounds) last
+-- so did it in rounds and in one more, its answers in which are these (profile)
+abbrev pub RanRoundsInPart : ℕ → ℕ → List Round → Round → CutAnswers → UnitStand → UnitStand → Type 0
+RanRoundsInPart units k rounds round cut first last =
+    UnitRanInPart first (project units k (frames_of (rounds ++ round ∷ []))) (groups_for units k rounds) cut last
 
 -- a unit was served: it began with the first device of its drive, and the drive is left as its last device is, with its tasks
 -- in the queue (profile)
@@ -76,17 +77,18 @@ abbrev pub AreServed : ℕ → ℕ → List Round → List DriveState → List D
 AreServed units k rounds olds news = EachAt (λ n old new. UnitServed (RanRounds units n rounds) old new) k olds news
 
 -- units from this one on were served in rounds and in one more, up to the one of this number, which sees the last frame and
--- was served in it in whole or in part; those behind it leave the last round out and answer nothing in it (profile)
-pub data AreServedInPart (units : ℕ) (rounds : List Round) (round : Round) (stop : ℕ)
+-- was served in it in whole or in part, with these answers; those behind it leave the last round out and answer nothing in it
+-- (profile)
+pub data AreServedInPart (units : ℕ) (rounds : List Round) (round : Round) (stop : ℕ) (cut : CutAnswers)
     : ℕ → List DriveState → List DriveState → Type 0 where
   here : {k : ℕ} {old new : DriveState} {olds news : List DriveState} (event : Frame)
       → k ≡ stop → seen units k round.frame ≡ event ∷ [] → NoAnswersBehind k round
-      → UnitServed (RanRoundsInPart units k (rounds ++ round ∷ [])) old new
-      → AreServed units (suc k) rounds olds news → AreServedInPart units rounds round stop k (old ∷ olds) (new ∷ news)
+      → UnitServed (RanRoundsInPart units k rounds round cut) old new
+      → AreServed units (suc k) rounds olds news → AreServedInPart units rounds round stop cut k (old ∷ olds) (new ∷ news)
   later : {k : ℕ} {old new : DriveState} {olds news : List DriveState}
       → UnitServed (RanRounds units k (rounds ++ round ∷ [])) old new
-      → AreServedInPart units rounds round stop (suc k) olds news
-      → AreServedInPart units rounds round stop k (old ∷ olds) (new ∷ news)
+      → AreServedInPart units rounds round stop cut (suc k) olds news
+      → AreServedInPart units rounds round stop cut k (old ∷ olds) (new ∷ news)
 
 -- ---- so far
 
@@ -95,18 +97,18 @@ abbrev pub HaveRun : ℕ → ℕ → List Round → List UnitState → List Unit
 HaveRun units k rounds starts ss =
     EachAt (λ n a s. RanRounds units n rounds (unit_stand_of a) (unit_stand_of s)) k starts ss
 
--- the same, and in one round more, up to the unit of this number, which sees its frame and did it in whole or in part; those
--- behind it answer nothing in it (profile)
-pub data HaveRunInPart (units : ℕ) (rounds : List Round) (round : Round) (stop : ℕ)
+-- the same, and in one round more, up to the unit of this number, which sees its frame and did it in whole or in part, with
+-- these answers; those behind it answer nothing in it (profile)
+pub data HaveRunInPart (units : ℕ) (rounds : List Round) (round : Round) (stop : ℕ) (cut : CutAnswers)
     : ℕ → List UnitState → List UnitState → Type 0 where
   here : {k : ℕ} {a s : UnitState} {starts ss : List UnitState} (event : Frame)
       → k ≡ stop → seen units k round.frame ≡ event ∷ [] → NoAnswersBehind k round
-      → RanRoundsInPart units k (rounds ++ round ∷ []) (unit_stand_of a) (unit_stand_of s)
-      → HaveRun units (suc k) rounds starts ss → HaveRunInPart units rounds round stop k (a ∷ starts) (s ∷ ss)
+      → RanRoundsInPart units k rounds round cut (unit_stand_of a) (unit_stand_of s)
+      → HaveRun units (suc k) rounds starts ss → HaveRunInPart units rounds round stop cut k (a ∷ starts) (s ∷ ss)
   later : {k : ℕ} {a s : UnitState} {starts ss : List UnitState}
       → RanRounds units k (rounds ++ round ∷ []) (unit_stand_of a) (unit_stand_of s)
-      → HaveRunInPart units rounds round stop (suc k) starts ss
-      → HaveRunInPart units rounds round stop k (a ∷ starts) (s ∷ ss)
+      → HaveRunInPart units rounds round stop cut (suc k) starts ss
+      → HaveRunInPart units rounds round stop cut k (a ∷ starts) (s ∷ ss)
 
 -- a unit has no task, and its deepest queue is what its drive has at least (profile)
 pub record HasNoTask (s : UnitState) : Type 0 where

@@ -74,7 +74,7 @@ pub record StoppedInAnswers (limit units : ℕ) (before after : Spot) : Type 0 w
   pub breaks : BreaksInRound (terms limit units) (streams_of before) (streams_of after) rounds round
   pub cut : IsCut units round breaks.behind after.stage.written
       (HaveRun units 0 (rounds ++ round ∷ []) before.stage.target.units after.stage.target.units)
-      (λ stop. HaveRunInPart units rounds round stop 0 before.stage.target.units after.stage.target.units)
+      (λ stop cut. HaveRunInPart units rounds round stop cut 0 before.stage.target.units after.stage.target.units)
   pub calls : HasFewCallsOn units (frames_of rounds ++ round.frame ∷ []) before after
 
 -- a write failed in what tells a refusal (profile)

@@ -12,7 +12,7 @@ use Rattle.satl_core.specs.Layer.{Layer, Tied, view}
 use Rattle.satl_core.specs.Tie.{TiesQueue}
 use Rattle.satl_step.specs.Events.{unplugs_behind}
 use Rattle.satl_step.specs.Runs.{IsDeep, KeepsDeepest, orders_behind, tally_of}
-use Rattle.satl_fleet.specs.Output.{told_under}
+use Rattle.satl_fleet.specs.Output.{CutAnswers, told_last, told_under}
 
 -- a unit: a layer and its drive (profile)
 pub record UnitState : Type 0 where
@@ -57,12 +57,18 @@ pub record Did (event : Frame) (old : UnitState) (answers : List Answer) (new : 
   pub queue : KeepsDeepest (tally_of old.drive 0) (tally_of new.drive 0)
 
 -- a unit did an event, or it was cut short behind one of its turns (profile)
-pub record DidInPart (event : Frame) (old : UnitState) (answers : List Answer) (new : UnitState) : Type 0 where
-  pub does : DoesInPart event (device_of old) answers (device_of new)
+pub record DidInPart (event : Frame) (old : UnitState) (cut : CutAnswers) (new : UnitState) : Type 0 where
+  pub does : DoesInPart event (device_of old) cut.earlier cut.last (device_of new)
   pub faults : RoseBy (losses_in event (device_of old) (device_of new)) old.drive.faults new.drive.faults
   pub unplugs : new.drive.unplugs ≡ unplugs_behind event old.drive.unplugs
   pub orders : new.drive.orders ≡ orders_behind event old.drive.orders
   pub queue : KeepsDeepest (tally_of old.drive 0) (tally_of new.drive 0)
+
+-- a unit's answers before its last step were told, and a front of those of that step (profile)
+pub record IsToldUnder (k : ℕ) (cut : CutAnswers) (written written' : Option (List ℕ)) : Type 0 where
+  pub behind : Option (List ℕ)
+  pub wrote : Wrote written behind (told_under k cut.earlier)
+  pub part : WrotePart behind written' (told_last k cut)
 
 -- a unit of this number did an event, and its answers were told (profile)
 pub record UnitDid (k : ℕ) (event : Frame) (old new : UnitState) (written written' : Option (List ℕ)) : Type 0 where
@@ -70,8 +76,8 @@ pub record UnitDid (k : ℕ) (event : Frame) (old new : UnitState) (written writ
   pub did : Did event old answers new
   pub wrote : Wrote written written' (told_under k answers)
 
--- it did it in whole or in part, and a front of its answers was told (profile)
+-- it did it in whole or in part: its answers before the last step were told, and a front of those of that step (profile)
 pub record UnitDidInPart (k : ℕ) (event : Frame) (old new : UnitState) (written written' : Option (List ℕ)) : Type 0 where
-  pub answers : List Answer
-  pub did : DidInPart event old answers new
-  pub part : WrotePart written written' (told_under k answers)
+  pub cut : CutAnswers
+  pub did : DidInPart event old cut new
+  pub told : IsToldUnder k cut written written'

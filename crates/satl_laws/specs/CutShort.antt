@@ -13,10 +13,11 @@ pub data WereDone : List Frame → List Frame → Type 0 where
   last_cut : (before : List Frame) (event : Frame) (count : ℕ) → 1 ≤ count → CutTurns event count
       → WereDone (before ++ event ∷ []) (before ++ frames.Turn count ∷ [])
 
--- law of runs cut short: a run that ends in part is a run over what was done of its events, with the same groups of answers,
--- as many losses and the same last device (profile)
+-- law of runs cut short: a run that ends in part is a run over what was done of its events, with the same answers to each, as
+-- many losses and the same last device (profile)
 abbrev pub CutShortIsARun : Type 0
 CutShortIsARun =
-    (first last : Device) (all : List Frame) (groups : List (List Answer)) (losses : ℕ) →
-    RunInPart first all groups losses last
-    → (done : List Frame) × (deep : ℕ) × WereDone all done × RunDeep first done groups losses last deep
+    (first last : Device) (all : List Frame) (groups : List (List Answer)) (earlier last_answers : List Answer) (losses : ℕ) →
+    RunInPart first all groups earlier last_answers losses last
+    → (done : List Frame) × (deep : ℕ) × WereDone all done
+    × RunDeep first done (groups ++ (earlier ++ last_answers) ∷ []) losses last deep

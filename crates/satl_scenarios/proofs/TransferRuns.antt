@@ -46,7 +46,7 @@ read_after_write =
 abbrev pub low_read : Entry
 low_read = task 1 (Read Ten 0 1 false) []
 
-abbrev high_read : Entry
+abbrev pub high_read : Entry
 high_read = task 2 (Read Ten 1 1 false) []
 
 -- the device while both wait

@@ -16,6 +16,8 @@ use Rattle.satl_direct.specs.Device.{Device}
 use Rattle.satl_direct.specs.Quiet.{Quiet}
 use Rattle.satl_direct.specs.Run.{RunDeep}
 use Rattle.satl_direct.specs.Run.TurnsOf.{none}
+use Rattle.satl_direct.specs.Turn as turning
+use Rattle.satl_direct.proofs.Quieting.{around_alone}
 use Rattle.satl_scenarios.specs.Scenario.{CanBeCut, CanHappen, Scenario, events_of, groups_of, silent}
 use Rattle.satl_scenarios.specs.Waiting.{aborted_half_done, overlapped_reads, full, one_too_many, one_turn_left}
 use Rattle.satl_scenarios.specs.Devices.{aa, never_written, device, zeros}
@@ -23,7 +25,7 @@ use Rattle.satl_scenarios.specs.Requests.{read_10, task}
 use Rattle.satl_scenarios.proofs.Building.{it_can_happen, arrives, drained, manages, turn_more}
 use Rattle.satl_scenarios.proofs.Building.Follows.{next, ends_here}
 use Rattle.satl_scenarios.proofs.Endings.{ended, done}
-use Rattle.satl_scenarios.proofs.TransferRuns.{both_wait, long_write, low_read}
+use Rattle.satl_scenarios.proofs.TransferRuns.{both_wait, high_read, long_write, low_read}
 
 -- ---- a write is aborted
 
@@ -87,13 +89,18 @@ both_arrive =
     (next (arrives [] arrived.last (refl, refl))
     ends_here))
 
+-- the second one waits
+abbrev second_waits : Device
+second_waits = record (never_written 2) { tasks = high_read ∷ [] }
+
 pub run_cut : CanBeCut one_turn_left
 run_cut = record {
-  earlier = events_of arrived;
+  before = events_of arrived;
   event = Turn 3;
   events = refl;
   groups = groups_of arrived;
-  answers = _;
+  earlier = _;
+  last = _;
   all_groups = refl;
   lost = 0;
   deep = both_arrive.run.deep;
@@ -101,12 +108,15 @@ run_cut = record {
   run = subst (λ groups. RunDeep arrived.first (events_of arrived) groups 0 arrived.last both_arrive.run.deep) both_arrive.groups both_arrive.run.run;
   short = record {
     count = 1;
-    some = omega arith;
     asked = omega arith;
-    replies = _;
+    before = _;
+    mid = second_waits;
     deep = _;
-    turns = turn_more one_turn_left.last none (ended low_read (inl refl) (done (ranged_read false (over 0 1)) arrived.last low_read refl));
-    answer = refl;
+    turns = turn_more second_waits none (ended low_read (inl refl) (done (ranged_read false (over 0 1)) arrived.last low_read refl));
+    earlier_are = refl;
+    replies = _;
+    turn = around_alone turning.Turn second_waits (never_written 2) _ (ended high_read (inl refl) (done (ranged_read false (over 1 1)) second_waits high_read refl));
+    last_are = refl;
   };
   losses = refl;
 }

@@ -42,15 +42,16 @@ pub record CanHappen (scenario : Scenario) : Type 0 where
 -- the scenario is a run, and behind it one event that is cut short behind one of its turns; each event has the answers that
 -- stand beside it
 pub record CanBeCut (scenario : Scenario) : Type 0 where
-  pub earlier : List Frame
+  pub before : List Frame
   pub event : Frame
-  pub events : events_of scenario ≡ earlier ++ event ∷ []
+  pub events : events_of scenario ≡ before ++ event ∷ []
   pub groups : List (List Answer)
-  pub answers : List Answer
-  pub all_groups : groups_of scenario ≡ groups ++ answers ∷ []
+  pub earlier : List Answer
+  pub last : List Answer
+  pub all_groups : groups_of scenario ≡ groups ++ (earlier ++ last) ∷ []
   pub lost : ℕ
   pub deep : ℕ
   pub mid : Device
-  pub run : RunDeep scenario.first earlier groups lost mid deep
-  pub short : DoesShort event mid answers scenario.last
+  pub run : RunDeep scenario.first before groups lost mid deep
+  pub short : DoesShort event mid earlier last scenario.last
   pub losses : scenario.losses ≡ lost + losses_in event mid scenario.last

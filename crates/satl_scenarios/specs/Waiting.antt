@@ -63,16 +63,16 @@ two_waiting = record (never_written 3) {
   tasks = task 1 (commands.Write Ten 0 1 false) (aa ∷ []) ∷ task 2 (commands.Read Ten 1 1 false) [] ∷ [];
 }
 
--- two reads, and of three turns one is taken: the second read waits
+-- two reads, and of three turns two are taken, in each of which one read ends
 abbrev pub one_turn_left : Scenario
 one_turn_left = record {
   first = never_written 2;
   steps =
       silent (read_10 1 0 1)
       ∷ silent (read_10 2 1 1)
-      ∷ answered (Turn 3) (good 1 (zeros ∷ []) ∷ [])
+      ∷ answered (Turn 3) (good 1 (zeros ∷ []) ∷ good 2 (zeros ∷ []) ∷ [])
       ∷ [];
   losses = 0;
   depth = 2;
-  last = record (never_written 2) { tasks = task 2 (commands.Read Ten 1 1 false) [] ∷ [] };
+  last = never_written 2;
 }

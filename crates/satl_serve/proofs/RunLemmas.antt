@@ -28,6 +28,7 @@ use Rattle.satl_step.specs.declared.frames_loop.Stop.TheVariants as stops
 use Rattle.satl_step.specs.Runs.{AreCounted, IsDeep, RunSoFar, Stand, is_request, requests_in}
 use Rattle.satl_step.specs.Telling.{IsTold, Telling}
 use Rattle.satl_step.proofs.RunLemmas.{run_start}
+use Rattle.satl_step.proofs.TellingLemmas.{told_more}
 use Rattle.satl_serve.specs.Forms.{begun, fault_told, output, told_of}
 use Rattle.satl_serve.specs.Moments.{SinkState, SourceState, Spot}
 use Rattle.satl_serve.specs.Runs.{BrokeInAnswers, BrokeInFault, BrokeInMagic, RanBefore, RanWhole, ReadBefore}
@@ -160,14 +161,15 @@ module _ {T : Type 0} (by : T → Answer → List ℕ) (behind : T → Answer �
   pub in_answers : (form : Form) (written : Option (List ℕ)) (a b : LoopState T) → Begins form written a → StoppedInAnswers by behind a b → BrokeInAnswers form input_limit (spot_of written a) (seen b)
   in_answers form written a b begins t =
       let s = t.going.so_far in
-      let mid = t.mid.scene.telling in
-      let tells = subst (λ x. TellsIn by behind form x) (sym s.told_so.teller) (tells_on by behind form a.scene.telling.teller (joined s.groups) begins.tells) in
-      let same = all_told_in by behind form mid.teller t.answers tells in
+      let mid = t.told_so.mid in
+      let told_so = told_more by behind a.scene.telling t.mid.scene.telling mid (joined s.groups) t.earlier s.told_so t.told_so.whole in
+      let tells = subst (λ x. TellsIn by behind form x) (sym told_so.teller) (tells_on by behind form a.scene.telling.teller (joined s.groups ++ t.earlier) begins.tells) in
       record {
         events = s.events;
         groups = s.groups;
         event = t.event;
-        answers = t.answers;
+        earlier = t.earlier;
+        last = t.last;
         reader = b.reader;
         behind = mid.written;
         limit_is = t.given.limit ∙ begins.limit;
@@ -175,8 +177,8 @@ module _ {T : Type 0} (by : T → Answer → List ℕ) (behind : T → Answer �
         none_ends = t.going.none_ends;
         read = t.given.read;
         unwaited = t.unwaited;
-        wrote = printed form written a mid (joined s.groups) begins s.told_so;
-        part = subst (λ l. WrotePart mid.written b.scene.telling.written l) same t.told_so.part;
+        wrote = printed form written a mid (joined s.groups ++ t.earlier) begins told_so;
+        part = subst (λ l. WrotePart mid.written b.scene.telling.written l) (all_told_in by behind form mid.teller t.last tells) t.told_so.front.part;
         run = t.run;
       }
 

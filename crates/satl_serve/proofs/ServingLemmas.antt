@@ -77,8 +77,8 @@ module _ (s : Device) (old new : Tally) (same : new ≡ record old { calls = new
   pub sooner : (b : Stand) (events : List Frame) (groups : List (List Answer)) → RunSoFar (record { device = s; tally = new }) b events groups → RunSoFar (record { device = s; tally = old }) b events groups
   sooner b events groups r = record { losses = r.losses; deep = r.deep; run = r.run; covered = sooner_covered r.deep b r.covered; counted = sooner_counted events r.losses b r.counted }
 
-  sooner_cut : (b : Stand) (events : List Frame) (groups : List (List Answer)) → RunCutSoFar (record { device = s; tally = new }) b events groups → RunCutSoFar (record { device = s; tally = old }) b events groups
-  sooner_cut b events groups r = record { losses = r.losses; run = r.run; counted = sooner_counted events r.losses b r.counted }
+  sooner_cut : (b : Stand) (events : List Frame) (groups : List (List Answer)) (earlier last : List Answer) → RunCutSoFar (record { device = s; tally = new }) b events groups earlier last → RunCutSoFar (record { device = s; tally = old }) b events groups earlier last
+  sooner_cut b events groups earlier last r = record { losses = r.losses; run = r.run; counted = sooner_counted events r.losses b r.counted }
 
   module _ (form : Form) (limit : ℕ) (left : Option (List ℕ)) (waited : Bool) (written : Option (List ℕ)) (b : Spot) where
     sooner_whole : RanWhole form limit (record { left = left; waited = waited; written = written; stand = record { device = s; tally = new } }) b → RanWhole form limit (record { left = left; waited = waited; written = written; stand = record { device = s; tally = old } }) b
@@ -90,7 +90,7 @@ module _ (s : Device) (old new : Tally) (same : new ≡ record old { calls = new
 
     sooner_part : RanInPart form limit (record { left = left; waited = waited; written = written; stand = record { device = s; tally = new } }) b → RanInPart form limit (record { left = left; waited = waited; written = written; stand = record { device = s; tally = old } }) b
     sooner_part (inl r) = inl (record { read = r.read; waits = r.waits; part = r.part; run = sooner b.stand [] [] r.run })
-    sooner_part (inr (inl r)) = inr (inl (record { events = r.events; groups = r.groups; event = r.event; answers = r.answers; reader = r.reader; behind = r.behind; limit_is = r.limit_is; newest_is = r.newest_is; none_ends = r.none_ends; read = r.read; unwaited = r.unwaited; wrote = r.wrote; part = r.part; run = sooner_cut b.stand _ _ r.run }))
+    sooner_part (inr (inl r)) = inr (inl (record { events = r.events; groups = r.groups; event = r.event; earlier = r.earlier; last = r.last; reader = r.reader; behind = r.behind; limit_is = r.limit_is; newest_is = r.newest_is; none_ends = r.none_ends; read = r.read; unwaited = r.unwaited; wrote = r.wrote; part = r.part; run = sooner_cut b.stand _ _ _ _ r.run }))
     sooner_part (inr (inr r)) = inr (inr (record { events = r.events; groups = r.groups; reason = r.reason; offset = r.offset; behind = r.behind; read = r.read; awaits = r.awaits; wrote = r.wrote; part = r.part; run = sooner b.stand _ _ r.run }))
 
 -- ---- serving

@@ -114,13 +114,14 @@ pub record BrokeInMagic (form : Form) (before after : Spot) : Type 0 where
   pub run : RunSoFar before.stand after.stand [] []
 
 -- frames were read, and no byte behind them was waited for; the last one was carried out or cut short behind one of its turns,
--- and those before it, none of which is END, were carried out; what is due before it was written whole, and of its answers a
--- front (profile)
+-- and those before it, none of which is END, were carried out; what is due before the last step of the last one was written
+-- whole, and of the answers of that step a front (profile)
 pub record BrokeInAnswers (form : Form) (limit : ℕ) (before after : Spot) : Type 0 where
   pub events : List Frame
   pub groups : List (List Answer)
   pub event : Frame
-  pub answers : List Answer
+  pub earlier : List Answer
+  pub last : List Answer
   pub reader : Reading
   pub behind : Option (List ℕ)
   pub limit_is : reader.limit ≡ limit
@@ -128,9 +129,9 @@ pub record BrokeInAnswers (form : Form) (limit : ℕ) (before after : Spot) : Ty
   pub none_ends : NoneEnds events
   pub read : HasRead reader before.left after.left (events ++ event ∷ [])
   pub unwaited : after.waited ≡ false
-  pub wrote : Wrote before.written behind (output form (joined groups))
-  pub part : WrotePart behind after.written (answers_told form answers)
-  pub run : RunCutSoFar before.stand after.stand (events ++ event ∷ []) (groups ++ answers ∷ [])
+  pub wrote : Wrote before.written behind (output form (joined groups ++ earlier))
+  pub part : WrotePart behind after.written (answers_told form last)
+  pub run : RunCutSoFar before.stand after.stand (events ++ event ∷ []) groups earlier last
 
 -- frames were read and carried out, none of which is END; the output of a run over these was written whole; and what follows
 -- was refused, nothing behind that was waited for, and of what tells it a front was written (profile)

@@ -22,17 +22,17 @@ use Rattle.satl_direct.specs.Quiet.{Around}
 use Rattle.satl_direct.specs.Tasks.{task_of}
 use Rattle.satl_direct.specs.Device.{Device}
 use Rattle.satl_direct.specs.Turn.{Turn}
-use Rattle.satl_direct.specs.Run.{Does, Manages, MayLose, TurnsOf, depth}
+use Rattle.satl_direct.specs.Run.{CutTurns, Does, DoesShort, IsLastStep, Manages, MayLose, TurnsOf, depth}
 use Rattle.satl_direct.specs.Run.TurnsOf.{none, more}
 use Rattle.satl_core.specs.Layer.{Layer}
 use Rattle.satl_core.specs.Submitting.{IsCutOf}
-use Rattle.satl_step.specs.Telling.{IsTold, IsToldInPart, Telling}
+use Rattle.satl_step.specs.Telling.{IsTold, IsToldInPart, IsToldInto, Telling}
 use Rattle.satl_step.specs.Events.{Carried, Done, DoneInPart, IsTallied, Scene, SomeTurnsTold, TurnsTold}
 use Rattle.satl_step.specs.Runs.{IsDeep, Stand}
 use Rattle.satl_step.specs.Serving.{WholeOrInPart}
 use Rattle.satl_step.proofs.LostLemmas.{turns_lost}
 use Rattle.satl_step.proofs.TallyLemmas.{end_tallied, turns_on, turns_start}
-use Rattle.satl_step.proofs.TellingLemmas.{part_before, part_one, told_more, told_none, told_one, told_part}
+use Rattle.satl_step.proofs.TellingLemmas.{into_first, into_more, part_before, part_one, told_more, told_none, told_one, told_part}
 
 pub map-append : (xs ys : List Reply) → map replied (xs ++ ys) ≡ map replied xs ++ map replied ys
 map-append [] ys = refl
@@ -40,7 +40,7 @@ map-append (x ∷ xs) ys = ap (λ l. replied x ∷ l) (map-append xs ys)
 
 -- ---- one turn
 
-zero_turns : (n : ℕ) (s new : Device) (replies : List Reply) (deep : ℕ) → n ≡ 0 → TurnsOf n s replies new deep → (new ≡ s) × (replies ≡ []) × (deep ≡ 0)
+pub zero_turns : (n : ℕ) (s new : Device) (replies : List Reply) (deep : ℕ) → n ≡ 0 → TurnsOf n s replies new deep → (new ≡ s) × (replies ≡ []) × (deep ≡ 0)
 zero_turns n s new replies deep is none = (refl, refl, refl)
 zero_turns n s new replies deep is (more a step) = absurd (omega (arith, is))
 
@@ -145,6 +145,21 @@ none_left : (tasks : List Held) → length tasks ≤ 0 → map task_of (entries_
 none_left [] few = refl
 none_left (h ∷ tasks) few = absurd (omega (arith, few))
 
+-- an event was cut short behind the turn that follows so many
+cut_turns : (event : Frame) (s new : Device) (count : ℕ) → CutTurns event (suc count) → (before : List Reply) (mid : Device) (deep : ℕ) → TurnsOf count s before mid deep → (replies : List Reply) → Around Turn mid replies new → DoesShort event s (map replied before) (map replied replies) new
+cut_turns event s new count asked before mid deep turns replies turn = record {
+  count = count;
+  asked = asked;
+  before = before;
+  mid = mid;
+  deep = deep;
+  turns = turns;
+  earlier_are = refl;
+  replies = replies;
+  turn = turn;
+  last_are = refl;
+}
+
 -- turns that leave no task
 pub all_ended : (n : ℕ) (l new : Layer) → n ≡ length l.tasks → length new.tasks ≤ length l.tasks - n → map task_of (entries_of new.tasks) ≡ []
 all_ended n l new all few = none_left new.tasks (omega (arith, all, few))
@@ -169,15 +184,17 @@ module _ {T : Type 0} (told : T → Answer → List ℕ) (behind : T → Answer 
       told_so = told_so;
     }) all;
     part = on_both_err r _ _ _ (λ some told_so. record {
-      taken = 1;
-      some = omega arith;
-      most = omega arith;
+      taken = 0;
+      few = omega arith;
+      earlier = [];
+      mid = a.stand.device;
+      deep = 0;
+      turns = none;
       replies = replies;
-      told_some = some;
-      deep = max 0 (depth c.stand.device);
-      turns = more none step;
+      some = some;
+      turn = step;
       tallied = tallied;
-      told_so = told_so;
+      told_so = into_first told behind a.telling c.telling (map replied replies) told_so;
     }) some part;
   }
 
@@ -195,17 +212,21 @@ module _ {T : Type 0} (told : T → Answer → List ℕ) (behind : T → Answer 
       }
 
   pub turns_cut : (n count : ℕ) (a b c : Scene T) → n + 1 ≤ count → TurnsTold told behind n a b → SomeTurnsTold told behind 1 b c → SomeTurnsTold told behind count a c
-  turns_cut n count a b c few first rest = record {
-    taken = suc n;
-    some = omega arith;
-    most = omega (arith, few);
-    replies = first.replies ++ rest.replies;
-    told_some = omega (arith, length-append first.replies rest.replies, rest.told_some);
-    deep = max first.deep (depth c.stand.device);
-    turns = more first.turns (one_turn rest.taken b.stand.device c.stand.device rest.replies rest.deep (omega (arith, rest.some, rest.most)) rest.turns).step;
-    tallied = turns_on n 1 count a.stand b.stand c.stand (turns_lost n _ first.replies _ first.deep first.turns) first.tallied rest.tallied;
-    told_so = subst (λ l. IsToldInPart told behind a.telling c.telling l) (sym (map-append first.replies rest.replies)) (told_part told behind a.telling b.telling c.telling (map replied first.replies) (map replied rest.replies) first.told_so rest.told_so);
-  }
+  turns_cut n count a b c few first rest =
+      let at = zero_turns rest.taken b.stand.device rest.mid rest.earlier rest.deep (omega (arith, rest.few)) rest.turns in
+      record {
+        taken = n;
+        few = omega (arith, few);
+        earlier = first.replies;
+        mid = b.stand.device;
+        deep = first.deep;
+        turns = first.turns;
+        replies = rest.replies;
+        some = rest.some;
+        turn = subst (λ mid. Around Turn mid rest.replies c.stand.device) at.0 rest.turn;
+        tallied = turns_on n 1 count a.stand b.stand c.stand (turns_lost n _ first.replies _ first.deep first.turns) first.tallied rest.tallied;
+        told_so = into_more told behind a.telling b.telling c.telling (map replied first.replies) (map replied rest.replies) first.told_so (subst (λ l. IsToldInto told behind b.telling c.telling (map replied l) (map replied rest.replies)) at.1 rest.told_so);
+      }
 
   -- ---- whole events
 
@@ -218,9 +239,10 @@ module _ {T : Type 0} (told : T → Answer → List ℕ) (behind : T → Answer 
 
   turns_in_part : (n : ℕ) (a c : Scene T) → SomeTurnsTold told behind n a c → DoneInPart told behind (frames.Turn n) a c
   turns_in_part n a c turns = record {
-    answers = map replied turns.replies;
-    some = omega (arith, length-map turns.replies replied, turns.told_some);
-    carried = inr (record { count = turns.taken; some = turns.some; asked = turns.most; replies = turns.replies; deep = turns.deep; turns = turns.turns; answer = refl });
+    earlier = map replied turns.earlier;
+    last = map replied turns.replies;
+    some = omega (arith, length-map turns.replies replied, turns.some);
+    carried = inr (cut_turns (frames.Turn n) a.stand.device c.stand.device turns.taken turns.few turns.earlier turns.mid turns.deep turns.turns turns.replies turns.turn);
     tallied = turns.tallied;
     told_so = turns.told_so;
   }
@@ -242,27 +264,29 @@ module _ {T : Type 0} (told : T → Answer → List ℕ) (behind : T → Answer 
 
   pub end_in_part : (n : ℕ) (a b c : Scene T) → b.stand ≡ c.stand → c.stand.device.tasks ≡ [] → TurnsTold told behind n a b → WrotePart b.telling.written c.telling.written (told b.telling.teller closed) → DoneInPart told behind frames.End a c
   end_in_part n a b c same empty turns part = record {
-    answers = map replied turns.replies ++ closed ∷ [];
-    some = omega (arith, length-append (map replied turns.replies) (closed ∷ []));
-    carried = inl (carried_end n a.stand c.stand turns.replies turns.deep (subst (λ s. TurnsOf n a.stand.device turns.replies s.device turns.deep) same turns.turns) (subst (λ s. IsDeep a.stand.tally → turns.deep ≤ s.tally.deepest) same turns.covered) empty);
+    earlier = map replied turns.replies;
+    last = closed ∷ [];
+    some = omega arith;
+    carried = inl (carried_end n a.stand c.stand turns.replies turns.deep (subst (λ s. TurnsOf n a.stand.device turns.replies s.device turns.deep) same turns.turns) (subst (λ s. IsDeep a.stand.tally → turns.deep ≤ s.tally.deepest) same turns.covered) empty, refl);
     tallied = end_tallied n a.stand c.stand (subst (λ s. IsTallied (frames.Turn n) a.stand s) same turns.tallied);
-    told_so = told_part told behind a.telling b.telling c.telling (map replied turns.replies) (closed ∷ []) turns.told_so (part_one told behind b.telling c.telling closed part);
+    told_so = record { mid = b.telling; whole = turns.told_so; front = part_one told behind b.telling c.telling closed part };
   }
 
   pub end_cut : (n : ℕ) (a c : Scene T) → SomeTurnsTold told behind n a c → DoneInPart told behind frames.End a c
   end_cut n a c turns = record {
-    answers = map replied turns.replies;
-    some = omega (arith, length-map turns.replies replied, turns.told_some);
-    carried = inr (record { count = turns.taken; some = turns.some; asked = tt; replies = turns.replies; deep = turns.deep; turns = turns.turns; answer = refl });
+    earlier = map replied turns.earlier;
+    last = map replied turns.replies;
+    some = omega (arith, length-map turns.replies replied, turns.some);
+    carried = inr (cut_turns frames.End a.stand.device c.stand.device turns.taken tt turns.earlier turns.mid turns.deep turns.turns turns.replies turns.turn);
     tallied = end_tallied n a.stand c.stand turns.tallied;
     told_so = turns.told_so;
   }
 
   -- an event whose answers are replies
-  pub replies_end : {X E : Type 0} (event : Frame) (a c : Scene T) (replies : List Reply) (r : Result X E) → Carried event a.stand (map replied replies) c.stand → IsTallied event a.stand c.stand → OnOk r (IsTold told behind a.telling c.telling (map replied replies)) → OnErr r (1 ≤ length replies) → OnErr r (IsToldInPart told behind a.telling c.telling (map replied replies)) → WholeOrInPart (Done told behind event) (DoneInPart told behind event) a c r
-  replies_end event a c replies r carried tallied all some part = record {
+  pub replies_end : {X E : Type 0} (event : Frame) (a c : Scene T) (replies : List Reply) (r : Result X E) → IsLastStep event [] (map replied replies) → Carried event a.stand (map replied replies) c.stand → IsTallied event a.stand c.stand → OnOk r (IsTold told behind a.telling c.telling (map replied replies)) → OnErr r (1 ≤ length replies) → OnErr r (IsToldInPart told behind a.telling c.telling (map replied replies)) → WholeOrInPart (Done told behind event) (DoneInPart told behind event) a c r
+  replies_end event a c replies r step carried tallied all some part = record {
     whole = on_ok_weaker r (λ told_so. record { answers = map replied replies; carried = carried; tallied = tallied; told_so = told_so }) all;
-    part = on_both_err r _ _ _ (λ some told_so. record { answers = map replied replies; some = omega (arith, length-map replies replied, some); carried = inl carried; tallied = tallied; told_so = told_so }) some part;
+    part = on_both_err r _ _ _ (λ some told_so. record { earlier = []; last = map replied replies; some = omega (arith, length-map replies replied, some); carried = inl (carried, step); tallied = tallied; told_so = into_first told behind a.telling c.telling (map replied replies) told_so }) some part;
   }
 
   -- a task management function, whose response comes behind replies
@@ -281,11 +305,12 @@ module _ {T : Type 0} (told : T → Answer → List ℕ) (behind : T → Answer 
 
     told_to_a_front : IsToldInPart told behind a.telling c.telling (map replied replies ++ last ∷ []) → DoneInPart told behind (frames.Manage m) a c
     told_to_a_front front = record {
-      answers = map replied replies ++ last ∷ [];
+      earlier = [];
+      last = map replied replies ++ last ∷ [];
       some = omega (arith, length-append (map replied replies) (last ∷ []));
-      carried = inl (carried_manage m response a.stand c.stand replies step covered);
+      carried = inl (carried_manage m response a.stand c.stand replies step covered, refl);
       tallied = tallied;
-      told_so = front;
+      told_so = into_first told behind a.telling c.telling (map replied replies ++ last ∷ []) front;
     }
 
     -- a write failed in it

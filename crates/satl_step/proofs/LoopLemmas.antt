@@ -206,9 +206,10 @@ module _ {T : Type 0} (told : T → Answer → List ℕ) (behind : T → Answer 
       requests = n;
       going = going;
       event = gave.whole;
-      answers = done.answers;
+      earlier = done.earlier;
+      last = done.last;
       given = given_more a b c n room frame going gave;
       unwaited = unwaited;
       told_so = done.told_so;
-      run = run_cut a.scene.stand b.scene.stand c.scene.stand going.so_far.events going.so_far.groups frame gave.whole done.answers going.so_far.run (record { room = room; cut = gave.cut }) done.carried done.tallied;
+      run = run_cut a.scene.stand b.scene.stand c.scene.stand going.so_far.events going.so_far.groups frame gave.whole done.earlier done.last going.so_far.run (record { room = room; cut = gave.cut }) done.carried done.tallied;
     }

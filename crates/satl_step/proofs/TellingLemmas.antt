@@ -9,7 +9,7 @@ use Rattle.satl_io.specs.Known.{Wrote, WrotePart}
 use Rattle.satl_io.proofs.Joined.{Wrote-more, Wrote-none, WrotePart-front, WrotePart-more}
 use Rattle.satl_frame.specs.Output.{Answer}
 use Rattle.satl_frame.specs.Output.Answer.{replied}
-use Rattle.satl_step.specs.Telling.{IsTold, IsToldInPart, Telling, all_behind, all_told}
+use Rattle.satl_step.specs.Telling.{IsTold, IsToldInPart, IsToldInto, Telling, all_behind, all_told}
 
 module _ {T : Type 0} (told : T → Answer → List ℕ) (behind : T → Answer → T) where
   pub all_told-append : (t : T) (xs ys : List Answer) → all_told told behind t (xs ++ ys) ≡ all_told told behind t xs ++ all_told told behind (all_behind behind t xs) ys
@@ -46,6 +46,18 @@ module _ {T : Type 0} (told : T → Answer → List ℕ) (behind : T → Answer 
   -- a front of one answer
   pub part_one : (a c : Telling T) (answer : Answer) → WrotePart a.written c.written (told a.teller answer) → IsToldInPart told behind a c (answer ∷ [])
   part_one a c answer part = record { part = subst (WrotePart a.written c.written) (sym (append-nil (told a.teller answer))) part }
+
+  -- a front of the answers, none of which stands before the last step
+  pub into_first : (a c : Telling T) (last : List Answer) → IsToldInPart told behind a c last → IsToldInto told behind a c [] last
+  into_first a c last front = record { mid = a; whole = told_none a; front = front }
+
+  -- the same behind answers
+  pub into_more : (a b c : Telling T) (xs last : List Answer) → IsTold told behind a b xs → IsToldInto told behind b c [] last → IsToldInto told behind a c xs last
+  into_more a b c xs last p q = record { mid = q.mid; whole = subst (IsTold told behind a q.mid) (append-nil xs) (told_more a b q.mid xs [] p q.whole); front = q.front }
+
+  -- all of them as one
+  pub into_part : (a c : Telling T) (earlier last : List Answer) → IsToldInto told behind a c earlier last → IsToldInPart told behind a c (earlier ++ last)
+  into_part a c earlier last p = told_part a p.mid c earlier last p.whole p.front
 
   -- ---- replies of a list
 

@@ -1,5 +1,5 @@
 -- One event on one unit: what it does, how its answers are told, and what is counted (profile).
-use Rattle.std.specs.Prelude.{◌≡◌, ◌⊎◌, ℕ, ◌+◌, ◌*◌, ◌≤◌, true, List, length, map, Option}
+use Rattle.std.specs.Prelude.{◌≡◌, ◌⊎◌, ℕ, ◌+◌, ◌*◌, ◌≤◌, ◌<◌, true, List, ◌++◌, length, map, Option}
 use Rattle.satl_base.specs.declared.reply.Reply.{Reply}
 use Rattle.satl_io.specs.Causes.{RoseBy}
 use Rattle.satl_frame.specs.declared.frames.Frame.{Frame}
@@ -9,13 +9,15 @@ use Rattle.satl_frame.specs.Output.Answer.{replied}
 use Rattle.satl_frame.specs.Pulls.{cut_to}
 use Rattle.satl_drive.specs.State.{DriveState}
 use Rattle.satl_direct.specs.Device.{Device}
-use Rattle.satl_direct.specs.Run.{Does, DoesShort, TurnsOf, losses_in}
+use Rattle.satl_direct.specs.Quiet.{Around}
+use Rattle.satl_direct.specs.Run.{Does, DoesShort, IsLastStep, TurnsOf, losses_in}
+use Rattle.satl_direct.specs.Turn.{Turn}
 use Rattle.satl_core.specs.Benching.{unplugs_after}
 use Rattle.satl_core.specs.Layer.{Layer}
 use Rattle.satl_core.specs.Submitting.{CanSubmit}
 use Rattle.satl_core.specs.Turning.{turn_calls}
 use Rattle.satl_step.specs.Runs.{IsDeep, KeepsDeepest, Stand, calls_of, orders_behind, stand_of}
-use Rattle.satl_step.specs.Telling.{IsTold, IsToldInPart, Telling}
+use Rattle.satl_step.specs.Telling.{IsTold, IsToldInto, Telling}
 
 -- where a run stands, and who tells its answers (profile)
 pub record Scene (T : Type 0) : Type 0 where
@@ -44,6 +46,13 @@ pub record Carried (event : Frame) (before : Stand) (answers : List Answer) (aft
   pub deep : ℕ
   pub does : (whole : Frame) → IsWholeOf event whole → Does whole before.device answers after.device deep
   pub covered : IsDeep before.tally → deep ≤ after.tally.deepest
+
+-- an event was carried out, or cut short behind one of its turns: the answers before its last step, and those of that step
+-- (profile)
+abbrev pub CarriedInPart : Frame → Stand → List Answer → List Answer → Stand → Type 0
+CarriedInPart event before earlier last after =
+    (Carried event before (earlier ++ last) after × IsLastStep event earlier last)
+    ⊎ DoesShort event before.device earlier last after.device
 
 -- how often the drive was unplugged behind an event (profile)
 abbrev pub unplugs_behind : Frame → ℕ → ℕ
@@ -75,14 +84,16 @@ pub record Done {T : Type 0} (told : T → Answer → List ℕ) (behind : T → 
   pub tallied : IsTallied event before.stand after.stand
   pub told_so : IsTold told behind before.telling after.telling answers
 
--- an event was carried out or cut short, and counted, and of its answers, one at least, a front was told (profile)
+-- an event was carried out or cut short, and counted: the answers before its last step were told, and of those of that step,
+-- one at least, a front (profile)
 pub record DoneInPart {T : Type 0} (told : T → Answer → List ℕ) (behind : T → Answer → T) (event : Frame)
     (before after : Scene T) : Type 0 where
-  pub answers : List Answer
-  pub some : 1 ≤ length answers
-  pub carried : Carried event before.stand answers after.stand ⊎ DoesShort event before.stand.device answers after.stand.device
+  pub earlier : List Answer
+  pub last : List Answer
+  pub some : 1 ≤ length last
+  pub carried : CarriedInPart event before.stand earlier last after.stand
   pub tallied : IsTallied event before.stand after.stand
-  pub told_so : IsToldInPart told behind before.telling after.telling answers
+  pub told_so : IsToldInto told behind before.telling after.telling earlier last
 
 -- ---- turns
 
@@ -96,15 +107,18 @@ pub record TurnsTold {T : Type 0} (told : T → Answer → List ℕ) (behind : T
   pub tallied : IsTallied (frames.Turn count) before.stand after.stand
   pub told_so : IsTold told behind before.telling after.telling (map replied replies)
 
--- some of so many turns were taken and counted, and told in part (profile)
+-- some of so many turns were taken and counted: those before the last one were told, and of its replies, one at least, a front
+-- (profile)
 pub record SomeTurnsTold {T : Type 0} (told : T → Answer → List ℕ) (behind : T → Answer → T) (count : ℕ)
     (before after : Scene T) : Type 0 where
   pub taken : ℕ
-  pub some : 1 ≤ taken
-  pub most : taken ≤ count
-  pub replies : List Reply
-  pub told_some : 1 ≤ length replies
+  pub few : taken < count
+  pub earlier : List Reply
+  pub mid : Device
   pub deep : ℕ
-  pub turns : TurnsOf taken before.stand.device replies after.stand.device deep
+  pub turns : TurnsOf taken before.stand.device earlier mid deep
+  pub replies : List Reply
+  pub some : 1 ≤ length replies
+  pub turn : Around Turn mid replies after.stand.device
   pub tallied : IsTallied (frames.Turn count) before.stand after.stand
-  pub told_so : IsToldInPart told behind before.telling after.telling (map replied replies)
+  pub told_so : IsToldInto told behind before.telling after.telling (map replied earlier) (map replied replies)

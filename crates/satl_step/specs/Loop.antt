@@ -15,7 +15,7 @@ use Rattle.satl_step.specs.declared.frames_loop.Stop.{Stop}
 use Rattle.satl_step.specs.declared.frames_loop.Stop.TheVariants as stops
 use Rattle.satl_step.specs.Events.{Scene}
 use Rattle.satl_step.specs.Runs.{RunCutSoFar, RunSoFar, requests_in}
-use Rattle.satl_step.specs.Telling.{IsTold, IsToldInPart}
+use Rattle.satl_step.specs.Telling.{IsTold, IsToldInto}
 
 -- whether a frame is END (profile)
 abbrev pub is_end : Frame → Bool
@@ -81,19 +81,21 @@ pub record Refused {T : Type 0} (told : T → Answer → List ℕ) (behind : T �
   pub repeats : after.reader ≡ record reader { refused = Some why }
 
 -- frames were carried out, none of which is END, and their answers were told; then one frame more was read, which was carried
--- out or cut short, and a front of its answers was told before a byte behind it was waited for (profile)
+-- out or cut short; before a byte behind it was waited for, its answers before its last step were told, and a front of those of
+-- that step (profile)
 pub record StoppedInAnswers {T : Type 0} (told : T → Answer → List ℕ) (behind : T → Answer → T)
     (before after : LoopState T) : Type 0 where
   pub mid : LoopState T
   pub requests : ℕ
   pub going : Going told behind before mid requests
   pub event : Frame
-  pub answers : List Answer
+  pub earlier : List Answer
+  pub last : List Answer
   pub given : HasGiven before after (going.so_far.events ++ event ∷ [])
   pub unwaited : after.waited ≡ false
-  pub told_so : IsToldInPart told behind mid.scene.telling after.scene.telling answers
-  pub run : RunCutSoFar before.scene.stand after.scene.stand (going.so_far.events ++ event ∷ [])
-      (going.so_far.groups ++ answers ∷ [])
+  pub told_so : IsToldInto told behind mid.scene.telling after.scene.telling earlier last
+  pub run : RunCutSoFar before.scene.stand after.scene.stand (going.so_far.events ++ event ∷ []) going.so_far.groups earlier
+      last
 
 -- by why they are carried out no further (profile)
 abbrev pub StoppedSo : {T : Type 0} → (T → Answer → List ℕ) → (T → Answer → T) → LoopState T → LoopState T → Stop → Type 0

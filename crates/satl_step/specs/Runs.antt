@@ -138,8 +138,9 @@ pub record RunSoFar (before after : Stand) (events : List Frame) (groups : List 
   pub counted : AreCounted events losses before after
 
 -- events were carried out one after the other, and the last one perhaps in part, and were counted: a group of answers for each
--- (profile)
-pub record RunCutSoFar (before after : Stand) (events : List Frame) (groups : List (List Answer)) : Type 0 where
+-- before it, its answers before its last step, and those of that step (profile)
+pub record RunCutSoFar (before after : Stand) (events : List Frame) (groups : List (List Answer))
+    (earlier last : List Answer) : Type 0 where
   pub losses : ℕ
-  pub run : RunInPart before.device events groups losses after.device
+  pub run : RunInPart before.device events groups earlier last losses after.device
   pub counted : AreCounted events losses before after

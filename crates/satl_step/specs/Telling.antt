@@ -28,3 +28,10 @@ pub record IsTold {T : Type 0} (told : T → Answer → List ℕ) (behind : T �
 pub record IsToldInPart {T : Type 0} (told : T → Answer → List ℕ) (behind : T → Answer → T) (before after : Telling T)
     (answers : List Answer) : Type 0 where
   pub part : WrotePart before.written after.written (all_told told behind before.teller answers)
+
+-- answers were told, and of those behind them a front was written (profile)
+pub record IsToldInto {T : Type 0} (told : T → Answer → List ℕ) (behind : T → Answer → T) (before after : Telling T)
+    (earlier last : List Answer) : Type 0 where
+  pub mid : Telling T
+  pub whole : IsTold told behind before mid earlier
+  pub front : IsToldInPart told behind mid after last

@@ -1,7 +1,7 @@
 -- A request and one turn, from what each of them did.
-use Rattle.std.proofs.Common.{rules, ◌≡◌, ◌⊎◌, inl, inr, refl, sym, ap, subst, ◌∙◌, arith, ℕ, ◌≤◌, max, List, [], ◌∷◌, ◌++◌, length, map}
+use Rattle.std.proofs.Common.{rules, ◌≡◌, inl, inr, refl, sym, ap, subst, ◌∙◌, arith, ℕ, suc, ◌≤◌, max, List, [], ◌∷◌, ◌++◌, length, map}
 use Rattle.std.specs.Prelude.{Result}
-use Rattle.std.proofs.lemmas.List.{append-nil, take_all}
+use Rattle.std.proofs.lemmas.List.{append-nil, length-append, take_all}
 use Rattle.std.proofs.lemmas.Result.{on_err_weaker, on_ok_weaker}
 use Rattle.satl_base.specs.declared.reply.Reply.{Reply}
 use Rattle.satl_base.specs.declared.request.Request.{Request}
@@ -18,16 +18,17 @@ use Rattle.satl_direct.specs.Turn.Turn.{idle}
 use Rattle.satl_direct.specs.Run.{DoesShort, MayLose, TurnsOf, depth}
 use Rattle.satl_direct.specs.Run.TurnsOf.{none, more}
 use Rattle.satl_direct.proofs.Quieting.{quiet_none}
+use Rattle.satl_laws.proofs.CutShort.{as_turns}
 use Rattle.satl_laws.proofs.OneReply.{Half, around_half, one_reply}
 use Rattle.satl_laws.proofs.OneReply.Half.{given, held}
 use Rattle.satl_core.proofs.CountedLemmas.{counted_same}
-use Rattle.satl_step.specs.Events.{Carried, Done, DoneInPart, IsTallied, Scene}
+use Rattle.satl_step.specs.Events.{Carried, CarriedInPart, Done, DoneInPart, IsTallied, Scene}
 use Rattle.satl_step.specs.Runs.{Stand}
 use Rattle.satl_step.specs.Telling.{IsTold, IsToldInPart}
 use Rattle.satl_step.specs.Serving.{WholeOrInPart}
 use Rattle.satl_step.proofs.EventLemmas.{carried_turns, map-append, one_turn}
 use Rattle.satl_step.proofs.RunLemmas.{covers_same}
-use Rattle.satl_step.proofs.TellingLemmas.{told_more, told_part}
+use Rattle.satl_step.proofs.TellingLemmas.{into_part, told_more, told_part}
 use Rattle.satl_usb.specs.Serving.{BothCarried, Exchanged, ExchangedInPart}
 
 -- ---- what each of the two did
@@ -89,14 +90,15 @@ idle_tallied : (a : Stand) → IsTallied (frames.Turn 1) a a
 idle_tallied a = record { faults = counted_same a.device a.device _ _ refl refl; unplugs = refl; orders = refl; calls = omega arith; uncalled = λ lost. refl; queue = covers_same a }
 
 -- a turn that was cut short was taken
-short_turn : (r : Request) (a b c : Stand) (first second : List Answer) → a.device.tasks ≡ [] → Carried (frames.Request r) a first b → DoesShort (frames.Turn 1) b.device second c.device → Carried (frames.Turn 1) b second c
-short_turn r a b c first second empty arrives short =
-    let one : short.count ≡ 1 = omega (arith, short.some, short.asked) in
-    let turn = one_turn short.count b.device c.device short.replies short.deep one short.turns in
+short_turn : (r : Request) (a b c : Stand) (first earlier last : List Answer) → a.device.tasks ≡ [] → Carried (frames.Request r) a first b → DoesShort (frames.Turn 1) b.device earlier last c.device → Carried (frames.Turn 1) b (earlier ++ last) c
+short_turn r a b c first earlier last empty arrives short =
+    let one : suc short.count ≡ 1 = omega (arith, short.asked) in
+    let does = as_turns short in
+    let turn = one_turn (suc short.count) b.device c.device does.0 does.1 one does.3 in
     let x = arrived r a b first arrives in
-    let left = (one_reply r a.device b.device c.device x.replies short.replies empty x.step turn.step).none in
+    let left = (one_reply r a.device b.device c.device x.replies does.0 empty x.step turn.step).none in
     let flat = no_depth c.device left in
-    subst (λ l. Carried (frames.Turn 1) b l c) (sym short.answer) (carried_turns 1 b c short.replies short.deep (subst (λ n. TurnsOf n b.device short.replies c.device short.deep) one short.turns) (λ deep. omega (arith, flat, turn.deep_is)) (λ deep. omega (arith, flat)))
+    subst (λ l. Carried (frames.Turn 1) b l c) (sym does.2) (carried_turns 1 b c does.0 does.1 (subst (λ n. TurnsOf n b.device does.0 c.device does.1) one does.3) (λ deep. omega (arith, flat, turn.deep_is)) (λ deep. omega (arith, flat)))
 
 -- where the reply was given at once, no task is left
 given_at_once : (r : Request) (a b : Stand) (first : List Answer) → a.device.tasks ≡ [] → Carried (frames.Request r) a first b → 1 ≤ length first → b.device.tasks ≡ []
@@ -129,15 +131,17 @@ module _ {T : Type 0} (told : T → Answer → List ℕ) (behind : T → Answer 
   second_fails : (r : Request) (a b c : Scene T) → a.stand.device.tasks ≡ [] → Done told behind (frames.Request r) a b → DoneInPart told behind (frames.Turn 1) b c → ExchangedInPart told behind r a c
   unfolding both
   second_fails r a b c empty first second =
-      let x = both r a.stand b.stand c.stand first.answers second.answers empty first.carried first.tallied (whole second.carried) second.tallied in
+      let answers = second.earlier ++ second.last in
+      let x = both r a.stand b.stand c.stand first.answers answers empty first.carried first.tallied (whole second.carried) second.tallied in
       record {
         both = x;
-        told_so = subst (λ l. IsToldInPart told behind a.telling c.telling l) x.one (told_part told behind a.telling b.telling c.telling first.answers second.answers first.told_so second.told_so);
+        told_so = subst (λ l. IsToldInPart told behind a.telling c.telling l) x.one
+            (told_part told behind a.telling b.telling c.telling first.answers answers first.told_so (into_part told behind b.telling c.telling second.earlier second.last second.told_so));
       }
     where
-      whole : Carried (frames.Turn 1) b.stand second.answers c.stand ⊎ DoesShort (frames.Turn 1) b.stand.device second.answers c.stand.device → Carried (frames.Turn 1) b.stand second.answers c.stand
-      whole (inl all) = all
-      whole (inr short) = short_turn r a.stand b.stand c.stand first.answers second.answers empty first.carried short
+      whole : CarriedInPart (frames.Turn 1) b.stand second.earlier second.last c.stand → Carried (frames.Turn 1) b.stand (second.earlier ++ second.last) c.stand
+      whole (inl all) = all.0
+      whole (inr short) = short_turn r a.stand b.stand c.stand first.answers second.earlier second.last empty first.carried short
 
   -- a turn behind it ended
   pub turn_ends : {X E : Type 0} (r : Request) (a b c : Scene T) (result : Result X E) → a.stand.device.tasks ≡ [] → Done told behind (frames.Request r) a b → WholeOrInPart (Done told behind (frames.Turn 1)) (DoneInPart told behind (frames.Turn 1)) b c result → WholeOrInPart (Exchanged told behind r) (ExchangedInPart told behind r) a c result
@@ -150,11 +154,15 @@ module _ {T : Type 0} (told : T → Answer → List ℕ) (behind : T → Answer 
   pub first_fails : (r : Request) (a b : Scene T) → a.stand.device.tasks ≡ [] → DoneInPart told behind (frames.Request r) a b → ExchangedInPart told behind r a b
   unfolding both
   first_fails r a b empty first =
+      let answers = first.earlier ++ first.last in
       let arrives = whole first.carried in
-      let left = given_at_once r a.stand b.stand first.answers empty arrives first.some in
-      let x = both r a.stand b.stand b.stand first.answers [] empty arrives first.tallied (idle_turn b.stand left) (idle_tallied b.stand) in
-      record { both = x; told_so = subst (λ l. IsToldInPart told behind a.telling b.telling l) (sym (append-nil first.answers) ∙ x.one) first.told_so }
+      let left = given_at_once r a.stand b.stand answers empty arrives (omega (arith, length-append first.earlier first.last, first.some)) in
+      let x = both r a.stand b.stand b.stand answers [] empty arrives first.tallied (idle_turn b.stand left) (idle_tallied b.stand) in
+      record {
+        both = x;
+        told_so = subst (λ l. IsToldInPart told behind a.telling b.telling l) (sym (append-nil answers) ∙ x.one) (into_part told behind a.telling b.telling first.earlier first.last first.told_so);
+      }
     where
-      whole : Carried (frames.Request r) a.stand first.answers b.stand ⊎ DoesShort (frames.Request r) a.stand.device first.answers b.stand.device → Carried (frames.Request r) a.stand first.answers b.stand
-      whole (inl all) = all
+      whole : CarriedInPart (frames.Request r) a.stand first.earlier first.last b.stand → Carried (frames.Request r) a.stand (first.earlier ++ first.last) b.stand
+      whole (inl all) = all.0
       whole (inr short) = absurd short.asked
