@@ -1,5 +1,5 @@
 -- How a command ends that goes over a range of the medium, in one ATA command or in pieces of 64 blocks upwards.
-use Rattle.std.specs.Prelude.{◌≡◌, ◌⊎◌, ℕ, ◌+◌, ◌-◌, ◌^◌, ◌≤◌, not, if◌then◌else◌, true, false, List, [], Option, Some, None, MatchOption, length, min, replicate}
+use Rattle.std.specs.Prelude.{◌≡◌, ◌⊎◌, ℕ, ◌+◌, ◌-◌, ◌/◌, ◌^◌, ◌≤◌, not, if◌then◌else◌, true, false, List, [], Option, Some, None, MatchOption, length, min, replicate}
 use Rattle.satl_base.specs.Limits.{most_covered, piece}
 use Rattle.satl_base.specs.declared.block.Block.{Block}
 use Rattle.satl_base.specs.declared.block.Range.{Range}
@@ -19,6 +19,10 @@ use Rattle.satl_barrier.specs.declared.comparing.Comparison.TheVariants as compa
 -- the next piece of a range, behind the blocks that are done (profile)
 abbrev pub piece_behind : Range → ℕ → Range
 piece_behind range done = record { lba = range.lba + done; count = min piece (range.count - done) }
+
+-- how many pieces so many blocks are (profile)
+abbrev pub pieces_of : ℕ → ℕ
+pieces_of count = (count + 63) / 64
 
 -- the most pieces of a command (profile)
 abbrev pub most_pieces : ℕ

@@ -1,7 +1,7 @@
 // VERIFY: a range is read for its flaws, or compared.
 ghost use Rattle.std.specs.Prelude.{◌≡◌, ◌≤◌, ◌+◌, ◌↔◌, [], None, IfOk, OnErr, IsTrue, length, take, drop};
-ghost use Rattle.satl_base.specs.Limits.{most_moved, piece};
-ghost use Rattle.satl_barrier.specs.Finishing.{ComparesAs, FinishesAs, IsReached, IsVerified, told_flaw, verifying_range};
+ghost use Rattle.satl_base.specs.Limits.{piece};
+ghost use Rattle.satl_barrier.specs.Finishing.{ComparesAs, FinishesAs, IsReached, IsVerified, pieces_of, told_flaw, verifying_range};
 ghost use Rattle.satl_base.specs.declared.bench.Which.TheVariants as flaws;
 ghost use Rattle.satl_base.specs.Cells.{first_flaw, nows};
 ghost use Rattle.satl_barrier.specs.declared.finishing.Finish.TheVariants as finishes;
@@ -118,13 +118,12 @@ fn compare_pieces<D: Drive<L>, L: Ledger>(
     requires reached { IsReached range (D.state drive.old) }
     requires clean { first_flaw flaws.Read (D.state drive.old).cells range.lba range.count ≡ None }
     requires all { length blocks.now ≡ range.count }
-    requires few { range.count ≤ most_moved }
     requires room { piece ≤ length scratch.old }
     ensures compares { IfOk result (λ it. ComparesAs range blocks.now it (D.state drive.old) (D.state drive.new)) }
     ensures lost { OnErr result (IsLostIn [] (D.state drive.old) (D.state drive.new)) }
     ensures stays { Stays (D.state drive.old) (D.state drive.new) }
     ensures size { length scratch.new ≡ length scratch.old }
-    ensures steps { steps.new ≤ steps.old + 64 }
+    ensures steps { steps.new ≤ steps.old + pieces_of range.count }
 {
     let mut wanted = blocks.iter();
     let mut done = 0;
@@ -143,9 +142,9 @@ fn compare_pieces<D: Drive<L>, L: Ledger>(
     Ok(Comparison::Same)
 }
 
-/// Compares a range of 1 to 4,096 blocks with as many pages, first read for its flaws and then in pieces of 64 blocks, in 65
-/// calls at most. The scratch pages, at least 64, are left with whatever was read. `LinkDown`: the link was lost (SAT-3, VERIFY
-/// with BYTCHK: READ VERIFY SECTOR(S) EXT and READ DMA EXT).
+/// Compares a range of 1 to 65,536 blocks with as many pages, first read for its flaws and then in pieces of 64 blocks, each by
+/// one call. The scratch pages, at least 64, are left with whatever was read. `LinkDown`: the link was lost (SAT-3, VERIFY with
+/// BYTCHK: READ VERIFY SECTOR(S) EXT and READ DMA EXT).
 pub fn compare<D: Drive<L>, L: Ledger>(
     range: Range,
     blocks: &Pages,
@@ -156,13 +155,12 @@ pub fn compare<D: Drive<L>, L: Ledger>(
     requires free { IsFree (D.state drive.old) }
     requires reached { IsReached range (D.state drive.old) }
     requires all { length blocks.now ≡ range.count }
-    requires few { range.count ≤ most_moved }
     requires room { piece ≤ length scratch.old }
     ensures compares { IfOk result (λ it. ComparesAs range blocks.now it (D.state drive.old) (D.state drive.new)) }
     ensures lost { OnErr result (IsLostIn [] (D.state drive.old) (D.state drive.new)) }
     ensures stays { Stays (D.state drive.old) (D.state drive.new) }
     ensures size { length scratch.new ≡ length scratch.old }
-    ensures steps { steps.new ≤ steps.old + 65 }
+    ensures steps { steps.new ≤ steps.old + 1 + pieces_of range.count }
 {
     if let Some(lba) = verify(range, drive, steps)? {
         return Ok(Comparison::Flawed { lba });

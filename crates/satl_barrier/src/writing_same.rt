@@ -1,7 +1,7 @@
 // WRITE SAME: one block at each address of a range.
 ghost use Rattle.std.specs.Prelude.{◌≡◌, ◌≤◌, ◌+◌, IfOk, OnErr, OnOk, length, min, replicate, take};
 ghost use Rattle.satl_base.specs.Limits.{piece};
-ghost use Rattle.satl_barrier.specs.Finishing.{FinishesAs, IsReached, most_pieces, writing_range, writing_same};
+ghost use Rattle.satl_barrier.specs.Finishing.{FinishesAs, IsReached, pieces_of, writing_range, writing_same};
 ghost use Rattle.satl_barrier.specs.Commands.{IsCutShort};
 ghost use Rattle.satl_barrier.specs.Leaving.{IsFree, IsLostIn, Stays};
 
@@ -56,8 +56,8 @@ fn write_piece<D: Drive<L>, L: Ledger>(
     Ok(Finish::from(&ended))
 }
 
-/// Writes the same block at each address of a range of 1 to 65,536 blocks, in pieces of 64 blocks upwards, in 1,024 calls at
-/// most. The scratch pages, at least 64, are as many afterwards; what they hold then is not told. `LinkDown`: the link was lost
+/// Writes the same block at each address of a range of 1 to 65,536 blocks, in pieces of 64 blocks upwards, each by one call.
+/// The scratch pages, at least 64, are as many afterwards; what they hold then is not told. `LinkDown`: the link was lost
 /// (SAT-3, WRITE SAME: WRITE DMA EXT).
 pub fn write_same<D: Drive<L>, L: Ledger>(
     range: Range,
@@ -75,7 +75,7 @@ pub fn write_same<D: Drive<L>, L: Ledger>(
         (D.state drive.new)) }
     ensures stays { Stays (D.state drive.old) (D.state drive.new) }
     ensures size { length scratch.new ≡ length scratch.old }
-    ensures steps { steps.new ≤ steps.old + most_pieces }
+    ensures steps { steps.new ≤ steps.old + pieces_of range.count }
 {
     fill(scratch, block);
     let mut done = 0;

@@ -1,5 +1,5 @@
 -- Which drive calls a task that runs alone and the queue take.
-use Rattle.std.proofs.Common.{◌≡◌, refl, sym, ap, subst, ◌∙◌, arith, ◌≤◌, ℕ, Bool, true, false, List, [], ◌∷◌, ◌++◌, Option, Some, None}
+use Rattle.std.proofs.Common.{◌≡◌, refl, sym, ap, subst, ◌∙◌, ℕ, Bool, true, false, List, [], ◌∷◌, ◌++◌, Option, Some, None}
 use Rattle.std.specs.Prelude.{MatchBool, not, ◌&&◌, if◌then◌else◌}
 use Rattle.satl_base.specs.declared.reply.Reply.{Reply}
 use Rattle.satl_errlog.specs.declared.entry.NcqError.{NcqError}
@@ -9,13 +9,12 @@ use Rattle.satl_direct.specs.Tasks.{asks}
 use Rattle.satl_line.specs.declared.entry.Entry.{Entry}
 use Rattle.satl_line.specs.Tasks.{Held}
 use Rattle.satl_core.specs.declared.alone.Alone.{Alone}
-use Rattle.satl_core.specs.declared.alone.Alone.TheVariants as alones
 use Rattle.satl_core.specs.declared.turning.Ending.{Ending}
 use Rattle.satl_core.specs.Alone.{alone_of}
 use Rattle.satl_core.specs.Calling.{OnlyIssues, ResetsFor, TellEnd, calls_alone, calls_if_alone, calls_of_first, calls_of_turn, is_first_unready, is_unready}
 use Rattle.satl_core.specs.Layer.{IsUsed, Layer}
 use Rattle.satl_core.specs.Leaving.{AreWaiting}
-use Rattle.satl_core.specs.Turning.{barrier_calls, ended_reply, ending_by, started_after}
+use Rattle.satl_core.specs.Turning.{ended_reply, ending_by, started_after}
 use Rattle.satl_core.proofs.HeldLemmas.{IsFirst}
 use Rattle.satl_flight.specs.Settled.{IsFilled}
 
@@ -24,23 +23,6 @@ use Rattle.satl_flight.specs.Settled.{IsFilled}
 -- where it is not refused, its turn takes what its command takes
 pub alone_turn : (started : Bool) (command : Command) (alone : Alone) → is_unready started command ≡ false → alone_of command ≡ Some alone → calls_of_turn started command ≡ calls_alone alone
 alone_turn started command alone ready is = ap (λ b. if b then 0 else calls_if_alone (alone_of command)) ready ∙ ap calls_if_alone is
-
-few_alone : (alone : Alone) → calls_alone alone ≤ barrier_calls
-few_alone alones.Select = omega arith
-few_alone (alones.Switch start no_flush) = omega arith
-few_alone (alones.Compare range) = omega arith
-few_alone (alones.WriteSame range) = omega arith
-few_alone _ = omega arith
-
-few_if_alone : (alone : Option Alone) → calls_if_alone alone ≤ barrier_calls
-few_if_alone None = omega arith
-few_if_alone (Some alone) = few_alone alone
-
--- no turn takes more than the longest command
-pub few_first : (started : Bool) (tasks : List Held) → calls_of_first started tasks ≤ barrier_calls
-few_first started [] = omega arith
-few_first started (h ∷ hs) =
-    elim (is_unready started h.entry.command) as (λ b. (if b then 0 else calls_if_alone (alone_of h.entry.command)) ≤ barrier_calls) [ true ↦ omega arith | false ↦ few_if_alone (alone_of h.entry.command) ]
 
 pub first_turn : (started : Bool) (tasks rest : List Held) (entry : Entry) → IsFirst tasks entry rest → calls_of_first started tasks ≡ calls_of_turn started entry.command
 first_turn started tasks rest entry first = rw first.are (ap (λ (e : Entry). calls_of_turn started e.command) first.entry_is)

@@ -9,7 +9,7 @@ use Rattle.satl_cdb.specs.declared.command.Command.{Command}
 use Rattle.satl_line.specs.declared.entry.Entry.{Entry}
 use Rattle.satl_line.specs.Tasks.{Held}
 use Rattle.satl_direct.specs.Tasks.{asks}
-use Rattle.satl_barrier.specs.Finishing.{most_pieces}
+use Rattle.satl_barrier.specs.Finishing.{pieces_of}
 use Rattle.satl_flight.specs.declared.flight.Flying.{Flying}
 use Rattle.satl_flight.specs.Leaving.{AreLeft, settle_calls}
 use Rattle.satl_flight.specs.Settled.{IssuesInOrder}
@@ -20,13 +20,13 @@ use Rattle.satl_core.specs.declared.alone.Alone.{Alone}
 use Rattle.satl_core.specs.declared.alone.Alone.TheVariants as alones
 
 -- the most drive calls of a command that runs alone: one for each mode value that a MODE SELECT changes on the drive, a flush
--- before a stop, for a comparison one that finds flaws and one for each 64 of up to 4,096 blocks, for a WRITE SAME one for each
--- 64 of up to 65,536, and one for each other command (SAT-3 8; profile)
+-- before a stop, for a comparison one that finds flaws and one for each 64 blocks, for a WRITE SAME one for each 64 blocks, and
+-- one for each other command (SAT-3 8; profile)
 abbrev pub calls_alone : Alone → ℕ
 calls_alone alones.Select = 2
 calls_alone (alones.Switch start no_flush) = 2
-calls_alone (alones.Compare range) = 65
-calls_alone (alones.WriteSame range) = most_pieces
+calls_alone (alones.Compare range) = 1 + pieces_of range.count
+calls_alone (alones.WriteSame range) = pieces_of range.count
 calls_alone _ = 1
 
 -- whether a task is refused as its turn comes, as its command needs a started unit and this one is stopped (SPC-4 4.5.6, NOT

@@ -2,7 +2,7 @@
 ghost use Rattle.std.specs.Prelude.{◌≡◌, ◌≤◌, ◌+◌, [], IfOk, OnErr, false, length, min, get_or};
 ghost use Rattle.satl_base.specs.Blocks.{no_block};
 ghost use Rattle.satl_base.specs.Limits.{most_moved, piece};
-ghost use Rattle.satl_barrier.specs.Finishing.{IsReached, most_pieces, trimming_ranges, writing_same};
+ghost use Rattle.satl_barrier.specs.Finishing.{IsReached, pieces_of, trimming_ranges, writing_same};
 ghost use Rattle.satl_barrier.specs.Leaving.{IsFree, IsLostIn, Stays};
 ghost use Rattle.satl_direct.specs.Senses;
 ghost use Rattle.satl_core.specs.Medium as medium;
@@ -52,7 +52,7 @@ pub fn compare_range<D: Drive<L>, L: Ledger>(
     ensures lost { OnErr result (IsLostIn [] (D.state drive.old) (D.state drive.new)) }
     ensures stays { Stays (D.state drive.old) (D.state drive.new) }
     ensures pool { pool.new ≡ pool.old }
-    ensures steps { steps.new ≤ steps.old + 65 }
+    ensures steps { steps.new ≤ steps.old + 1 + pieces_of range.count }
 {
     let mut scratch = scratch_pages(pool);
     let comparison = compare(range, blocks, &mut scratch, drive, steps);
@@ -78,7 +78,7 @@ pub fn write_range<D: Drive<L>, L: Ledger>(
         (D.state drive.old) (D.state drive.new)) }
     ensures stays { Stays (D.state drive.old) (D.state drive.new) }
     ensures pool { pool.new ≡ pool.old }
-    ensures steps { steps.new ≤ steps.old + most_pieces }
+    ensures steps { steps.new ≤ steps.old + pieces_of range.count }
 {
     let mut scratch = scratch_pages(pool);
     let finish = write_same(range, body.block(0), &mut scratch, drive, steps);

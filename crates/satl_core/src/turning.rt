@@ -12,7 +12,7 @@ ghost use Rattle.satl_base.specs.declared.modes.Modes.{Modes};
 ghost use Rattle.satl_core.specs.Turning;
 ghost use Rattle.satl_barrier.specs.Leaving.{IsFree, IsLostIn, Stays};
 ghost use Rattle.satl_barrier.specs.Settings.{CanSet, IsSetBy};
-ghost use Rattle.satl_core.specs.Turning.{CarriedOut, IsLostInTask, TaskEnds, ended_reply, lost_replies, modes_after, modes_left, started_after, task_on};
+ghost use Rattle.satl_core.specs.Turning.{CarriedOut, IsLostInTask, TaskEnds, barrier_calls, ended_reply, lost_replies, modes_after, modes_left, started_after, task_on};
 
 use crate::alone::Alone;
 use crate::medium::{compare_range, trim_ranges, verify_range, write_range};
@@ -79,6 +79,7 @@ pub fn run_task<D: Drive<L>, L: Ledger>(
     ensures uncalled { down ≡ true → steps.new ≡ steps.old }
     ensures unready { is_unready started task.old.command ≡ true → drive.new ≡ drive.old }
     ensures calls { steps.new ≤ steps.old + calls_of_turn started task.old.command }
+    ensures steps { steps.new ≤ steps.old + barrier_calls }
 {
     if down {
         return Ok(link_lost());
@@ -129,6 +130,7 @@ fn carry_out<D: Drive<L>, L: Ledger>(
     ensures size { length task.new.body ≡ length task.old.body }
     ensures pool { pool.new ≡ pool.old }
     ensures calls { steps.new ≤ steps.old + calls_alone alone }
+    ensures steps { steps.new ≤ steps.old + barrier_calls }
 {
     match alone {
         Alone::Flush => flush(drive, steps)?,

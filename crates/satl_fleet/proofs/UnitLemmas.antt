@@ -14,7 +14,7 @@ use Rattle.satl_step.specs.Telling.{all_behind, all_told}
 use Rattle.satl_step.proofs.RunLemmas.{in_part, tallied_whole}
 use Rattle.satl_step.proofs.TellingLemmas.{all_told-append}
 use Rattle.satl_fleet.specs.Output.{CutAnswers, all_of, is_left_out, kept, named, named_behind, told_last, told_one, told_under, unit_bytes}
-use Rattle.satl_fleet.specs.Units.{Did, DidInPart, UnitDid, UnitDidInPart, device_of, unit_state}
+use Rattle.satl_fleet.specs.Units.{Did, DidInPart, UnitDid, UnitDidInPart, unit_state}
 use Rattle.satl_fleet.specs.declared.telling.UnitTeller.{UnitTeller}
 
 -- ---- telling

@@ -56,7 +56,7 @@ loop-done-preserved g c =
       wanted = dropped_on c.loop-done.done c.next_piece-next.result.count c.args.blocks.now c.loop-done.wanted c.takes_same.new.wanted c.loop-done.invariant.wanted (c.if-not-takes_same.ensures.rest refl);
       room = c.in_ok-read_piece.ensures.size ∙ c.loop-done.invariant.room;
       aligned = λ more. omega (arith, count, before, step, more);
-      few = omega (arith, before, step, c.loop-done-test.true, c.requires.few);
+      few = omega (arith, before, step, c.loop-done-test.true);
     }
 
 pub returns-clause-compares : goal.returns-clause-compares

@@ -1,6 +1,6 @@
 use Rattle.std.proofs.Common.{◌≡◌, ◌+◌, ◌*◌, ◌-◌, ◌<◌, ◌≤◌, drop, length, take}
 use Rattle.satl_base.specs.Cells.{nows}
-use Rattle.satl_barrier.specs.Finishing.{verifying_range}
+use Rattle.satl_barrier.specs.Finishing.{pieces_of, verifying_range}
 use Rattle.satl_barrier.specs.Leaving.{IsFree}
 use Rattle.satl_barrier.proofs.PiecesLemmas.{IsSoFar, head}
 use Rattle.satl_barrier.proofs.comparing.compare_pieces.Given as goal
@@ -17,7 +17,7 @@ invariant-loop-done g l =
       wanted : l.wanted ≡ drop l.done l.blocks;
       room : length l.scratch ≡ length l.fn.scratch;
       aligned : l.done < l.range.count → l.fn.steps * 64 + l.done ≡ l.steps * 64;
-      few : l.steps ≤ l.fn.steps + 64;
+      few : l.steps ≤ l.fn.steps + pieces_of l.range.count;
     }
 
 abbrev pub decreases-loop-done : goal.decreases-loop-done

@@ -28,7 +28,7 @@ loop-done-preserved g c =
       so_far = piece_done c.args.range c.args.block.now c.next_piece-next.result c.loop-done.scratch (length c.args.scratch.now) c.loop-done.done _ _ _
           c.next_piece-next.ensures (omega (arith, c.loop-done-test.true)) c.loop-done.invariant.filled c.requires.room c.loop-done.invariant.so_far (done_by _ _ _ _ _ c.in-Done.is c.in_ok-stopped.ensures.finishes) c.in_ok-stopped.ensures.stays;
       aligned = λ more. omega (arith, count, before, step, more);
-      few = omega (arith, before, step, c.loop-done-test.true, c.requires.reached.most);
+      few = omega (arith, before, step, c.loop-done-test.true);
     }
 
 pub returns-in_default : goal.returns-in_default
@@ -42,5 +42,5 @@ returns-in_default g c =
       stays = piece_stays c.args.range c.args.block.now c.next_piece-next.result c.loop-done.scratch (length c.args.scratch.now) c.loop-done.done _ _ _
           c.next_piece-next.ensures (omega (arith, c.loop-done-test.true)) c.loop-done.invariant.filled c.requires.room c.loop-done.invariant.so_far c.in_ok-stopped.ensures.stays;
       size = c.in_ok-stopped.ensures.size ∙ ap length c.loop-done.invariant.filled ∙ length-replicate (length c.args.scratch.now) c.args.block.now;
-      steps = omega (arith, before, step, c.loop-done-test.true, c.requires.reached.most);
+      steps = omega (arith, before, step, c.loop-done-test.true);
     }

@@ -1,5 +1,5 @@
 use Rattle.std.proofs.Common.{◌≡◌, ◌+◌, ◌*◌, ◌-◌, ◌<◌, ◌≤◌, length, replicate}
-use Rattle.satl_barrier.specs.Finishing.{writing_same}
+use Rattle.satl_barrier.specs.Finishing.{pieces_of, writing_same}
 use Rattle.satl_barrier.specs.Leaving.{IsFree}
 use Rattle.satl_barrier.proofs.PiecesLemmas.{IsSoFar, head}
 use Rattle.satl_barrier.proofs.writing_same.write_same.Given as goal
@@ -14,7 +14,7 @@ invariant-loop-done g l =
       free : IsFree now;
       so_far : IsSoFar (writing_same (head l.range l.done) l.block old) old now;
       aligned : l.done < l.range.count → l.fn.steps * 64 + l.done ≡ l.steps * 64;
-      few : l.steps ≤ l.fn.steps + 1024;
+      few : l.steps ≤ l.fn.steps + pieces_of l.range.count;
     }
 
 abbrev pub decreases-loop-done : goal.decreases-loop-done

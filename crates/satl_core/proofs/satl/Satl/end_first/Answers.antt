@@ -1,4 +1,4 @@
-use Rattle.std.proofs.Common.{◌≡◌, ◌≤◌, ◌+◌, inl, inr, arith, refl, sym, ap, subst, ◌∙◌, [], ◌∷◌, ◌++◌, Some, length, map, true, false}
+use Rattle.std.proofs.Common.{◌≡◌, ◌≤◌, ◌+◌, inl, inr, arith, refl, sym, ap, subst, ◌∙◌, [], ◌∷◌, ◌++◌, Some, length, map, true}
 use Rattle.std.proofs.lemmas.List.{length-append, length-map}
 use Rattle.std.specs.List.{AllByRecursion}
 use Rattle.satl_base.specs.declared.reply.Reply.{Reply}
@@ -15,7 +15,7 @@ use Rattle.satl_core.specs.Refilling.{EndsOne}
 use Rattle.satl_core.specs.Turning.{data_in, ended_reply, lost_replies, task_on}
 use Rattle.satl_core.proofs.AgreeingLemmas.{alone_down, capacity_is, tied_lost}
 use Rattle.satl_core.proofs.ArrivalLemmas.{held_by_is}
-use Rattle.satl_core.proofs.CallingLemmas.{few_first, first_turn, first_unready, unready_stays, unready_stopped}
+use Rattle.satl_core.proofs.CallingLemmas.{first_turn, first_unready, unready_stays, unready_stopped}
 use Rattle.satl_core.proofs.MediumLemmas.{can_carry}
 use Rattle.satl_core.proofs.CountedLemmas.{few_tasks, kept_rose, kept_same}
 use Rattle.satl_core.proofs.DeviceLemmas.{first_tasks, seen}
@@ -265,9 +265,7 @@ returns-in-Ok-clause-first_calls g c =
     subst (λ n. c.run_task.new.steps ≤ c.args.steps.now + n) (calls_are g (goal.at.returns-in-Ok-clause-first_calls g c).After-entry_mut-task) c.run_task.ensures.calls
 
 pub returns-in-Ok-clause-steps : goal.returns-in-Ok-clause-steps
-returns-in-Ok-clause-steps g c =
-    let same = calls_are g (goal.at.returns-in-Ok-clause-steps g c).After-entry_mut-task in
-    omega (arith, same, c.run_task.ensures.calls, few_first c.args.self.now.started c.args.self.now.tasks)
+returns-in-Ok-clause-steps g c = c.run_task.ensures.steps
 
 pub returns-in-Err-clause-unready : goal.returns-in-Err-clause-unready
 returns-in-Err-clause-unready g c = λ unready.
@@ -281,6 +279,4 @@ returns-in-Err-clause-first_calls g c =
     subst (λ n. c.run_task.new.steps ≤ c.args.steps.now + n) (calls_are g (goal.at.returns-in-Err-clause-first_calls g c).After-entry_mut-task) c.run_task.ensures.calls
 
 pub returns-in-Err-clause-steps : goal.returns-in-Err-clause-steps
-returns-in-Err-clause-steps g c =
-    let same = calls_are g (goal.at.returns-in-Err-clause-steps g c).After-entry_mut-task in
-    omega (arith, same, c.run_task.ensures.calls, few_first c.args.self.now.started c.args.self.now.tasks)
+returns-in-Err-clause-steps g c = c.run_task.ensures.steps
