@@ -1,0 +1,12 @@
+pub mod AnswersBack
+pub mod LawsBack
+pub mod Names
+pub mod OneReplyBack
+pub mod RenamedArrivals
+pub mod RenamedEnds
+pub mod RenamedEvents
+pub mod RenamedInputs
+pub mod RenamedRuns
+pub mod RenamedTurns
+pub mod Renaming
+pub mod RetriedRuns
