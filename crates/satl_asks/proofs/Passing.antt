@@ -1,7 +1,8 @@
 -- Where no rule is broken.
-use Rattle.std.proofs.Common.{◌≡◌, ◌∙◌, cond, sym, subst, ℕ, true, false, List, [], ◌∷◌}
-use Rattle.std.specs.Prelude.{Some, Result, Ok, Err, IfOk}
+use Rattle.std.proofs.Common.{◌≡◌, ◌∙◌, cond, refl, sym, subst, ℕ, true, false, List, [], ◌∷◌}
+use Rattle.std.specs.Prelude.{Some, Result, Ok, Err, IfNone, IfOk}
 use Rattle.std.specs.Option.{option_map_or}
+use Rattle.std.specs.Result.{result_err}
 use Rattle.satl_cdb.specs.declared.command.Illegal.{Illegal}
 use Rattle.satl_cdb.specs.Rows.{Rule, broken_rule, unless_broken}
 use Rattle.satl_pass.specs.declared.pass.Pass.{Pass}
@@ -24,5 +25,10 @@ unfolding pass_says
 says_fields cdb pass e = unbroken (rules (form_of cdb)) cdb (pass_in (form_of cdb) cdb) pass e
 
 -- so it can be run
-pub can_run : (cdb : List ℕ) (pass : Pass) (found : Result Pass Illegal) → found ≡ Ok pass → found ≡ pass_says cdb → IfOk found CanGoToDrive → CanGoToDrive (pass_of cdb)
+can_run : (cdb : List ℕ) (pass : Pass) (found : Result Pass Illegal) → found ≡ Ok pass → found ≡ pass_says cdb → IfOk found CanGoToDrive → CanGoToDrive (pass_of cdb)
 can_run cdb pass found is says can = subst CanGoToDrive (sym (says_fields cdb pass (sym says ∙ is))) (subst (λ f. IfOk f CanGoToDrive) is can)
+
+-- so it can be run where nothing is refused
+pub can_unless_refused : (cdb : List ℕ) (found : Result Pass Illegal) → found ≡ pass_says cdb → IfOk found CanGoToDrive → IfNone (result_err found) (CanGoToDrive (pass_of cdb))
+can_unless_refused cdb (Ok pass) says can = can_run cdb pass (Ok pass) refl says can
+can_unless_refused cdb (Err why) says can = tt

@@ -97,10 +97,7 @@ pub fn fields_fault(command: &Command) -> Option<Illegal>
     ensures can { IfNone result (CanPass command.now) }
 {
     match *command {
-        Command::Pass { cdb } => match read_pass(&cdb) {
-            Ok(_) => None,
-            Err(why) => Some(why),
-        },
+        Command::Pass { cdb } => read_pass(&cdb).err(),
         _ => None,
     }
 }

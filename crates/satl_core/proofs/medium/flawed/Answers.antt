@@ -1,7 +1,0 @@
-use Rattle.std.proofs.Common.{ap, ◌∙◌}
-use Rattle.satl_core.specs.declared.turning.Ending.TheVariants as endings
-use Rattle.satl_core.proofs.MediumLemmas.{flaw_sense}
-use Rattle.satl_core.proofs.medium.flawed.Goals as goal
-
-pub returns : goal.returns
-returns c = ap endings.Check (c.error_sense_at.ensures ∙ flaw_sense c.args.writes c.args.lba)
