@@ -32,10 +32,7 @@ fn add_name(names: &mut BTreeSet<(u8, u32)>, frame: &Frame<'_>) -> Result<bool, 
     match frame {
         Frame::Request(request) => {
             let name = (request.nexus.number(), request.tag.0);
-            match names.insert(name) {
-                Ok(fresh) => Ok(fresh),
-                Err(_) => Err(NoMemory),
-            }
+            Ok(names.insert(name)?)
         }
         Frame::Manage(_) | Frame::Turn(_) | Frame::Bench(_) | Frame::End => Ok(true),
     }
