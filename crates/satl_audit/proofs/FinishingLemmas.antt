@@ -5,7 +5,7 @@ use Rattle.std.proofs.lemmas.List.{get_or-map}
 use Rattle.satl_base.specs.declared.block.Block.{Block}
 use Rattle.satl_base.specs.declared.reply.Scsi.TheVariants.{Good}
 use Rattle.satl_base.specs.Blocks.{bytes_of, first_bytes, AreWhole}
-use Rattle.satl_audit.specs.Finishing.{IsReadBy, ReadAnswered, end_deeds, head_bytes}
+use Rattle.satl_audit.specs.Finishing.{IsReadBy, ReadAnswered, head_bytes}
 use Rattle.satl_audit.specs.Kept.{Keeping, blank_keeping, kept_settle, known_sector, known_sector_at}
 use Rattle.satl_audit.specs.Progress.{Compared}
 use Rattle.satl_audit.specs.Sectors.{KnownSector, sector_gives, settled_in}
@@ -17,6 +17,7 @@ use Rattle.satl_base.proofs.BlocksLemmas.{length-bytes_of}
 use Rattle.satl_audit.specs.Following.{GivesBlocks, along}
 use Rattle.satl_audit.specs.Deeds.{Deed}
 use Rattle.satl_audit.specs.Deeds.Deed.{gives}
+use Rattle.satl_audit.specs.Skeleton.{deeds_at}
 use Rattle.satl_direct.specs.Device.{Device}
 use Rattle.satl_audit.proofs.FixingEvents.{after_same}
 
@@ -34,8 +35,8 @@ pub all_bytes : (vs : List Block) → AreWhole vs → first_bytes (512 * length 
 all_bytes vs whole = ap (λ n. take n (bytes_of vs)) (sym (length-bytes_of vs whole)) ∙ take_own (bytes_of vs)
 
 -- blocks that a sector refuses
-pub refusing : (x : ℕ) (s : Device) (k : KnownSector) (deed : Deed) (lba : ℕ) (blocks : List Block) → deed ≡ gives lba blocks → sector_gives x lba blocks (Some k) ≡ None → along x None (end_deeds s deed) (Some k) ≡ None
-refusing x s k deed lba blocks is none = ap (λ d. along x None (end_deeds s d) (Some k)) is ∙ ap (along x None []) none
+pub refusing : (x : ℕ) (s : Device) (k : KnownSector) (deed : Deed) (lba : ℕ) (blocks : List Block) → deed ≡ gives lba blocks → sector_gives x lba blocks (Some k) ≡ None → along x None (deeds_at s deed) (Some k) ≡ None
+refusing x s k deed lba blocks is none = ap (λ d. along x None (deeds_at s d) (Some k)) is ∙ ap (along x None []) none
 
 -- all is written back
 settled_at : (input : List ℕ) (now : Option Content) (may : List Content) → known_sector input (kept_settle (record { now = now; may = may })) ≡ settled_in (known_sector input (record { now = now; may = may })).now (known_sector input (record { now = now; may = may })).may

@@ -19,7 +19,9 @@ use Rattle.satl_direct.specs.Tasks.{held_blocks}
 use Rattle.satl_audit.specs.Arriving.{device_without_sectors}
 use Rattle.satl_audit.specs.Following.{Follows, pairs_in}
 use Rattle.satl_audit.specs.Kept.{Keeping, blank_keeping, kept_power, known_sector, known_sector_at}
-use Rattle.satl_audit.specs.Powering.{PendsAll, power_deeds}
+use Rattle.satl_audit.specs.Deeds.Deed.{powers}
+use Rattle.satl_audit.specs.Powering.{PendsAll}
+use Rattle.satl_audit.specs.Skeleton.{deeds_at}
 use Rattle.satl_audit.specs.Waiting.{MayWait, Placed, task_in}
 use Rattle.satl_audit.proofs.EndWithin.{write_body}
 
@@ -61,7 +63,7 @@ some_at (p ∷ ps) (suc n) less = some_at ps n (omega (arith, less))
 -- ---- the power is lost
 
 pub power_follows : (identity : Identity) (input : List ℕ) (waiting : List Placed) (old mid new : List Keeping) → length mid ≡ length old → PendsAll identity input waiting old mid → new ≡ map kept_power mid →
-    Follows input (power_deeds (device_without_sectors identity input waiting [])) old new
+    Follows input (deeds_at (device_without_sectors identity input waiting []) powers) old new
 power_follows identity input waiting old mid new size pends is = (
   ap (λ (l : List Keeping). length l) is ∙ length-map mid kept_power ∙ size,
   λ x less.

@@ -16,8 +16,7 @@ use Rattle.satl_audit.specs.Arriving.{device_at, device_without_sectors}
 use Rattle.satl_audit.specs.Deeds.Deed.{shows, powers}
 use Rattle.satl_audit.specs.Following.{Follows}
 use Rattle.satl_audit.specs.Kept.{Keeping}
-use Rattle.satl_audit.specs.Powering.{power_deeds}
-use Rattle.satl_audit.specs.Skeleton.{pairs_of_tasks, pairs_shown, after_power_cycle}
+use Rattle.satl_audit.specs.Skeleton.{pairs_of_tasks, pairs_shown, after_power_cycle, deeds_at}
 use Rattle.satl_audit.specs.Waiting.{Placed, device_tasks}
 use Rattle.satl_audit.specs.declared.arriving.Followed.{Followed}
 use Rattle.satl_audit.specs.Progress.{recorded, progress}
@@ -54,10 +53,10 @@ pub shown_same : (identity : Identity) (before after : List (List Attention)) (i
 shown_same identity before after input waiting = pairs_same identity before after input waiting (eligibles (device_tasks input waiting))
 
 pub power_goes : (identity : Identity) (input : List ℕ) (old new : Followed) (sectors after : List Keeping) → new.waiting ≡ [] → new.attentions ≡ map (λ (conditions : List Attention). PowerOn ∷ []) old.attentions → new.output ≡ old.output →
-    Follows input (power_deeds (device_without_sectors identity input old.waiting [])) sectors after → GoesOn (recorded identity input) (frames.Bench events.Power) (progress old sectors) (progress new after)
+    Follows input (deeds_at (device_without_sectors identity input old.waiting []) powers) sectors after → GoesOn (recorded identity input) (frames.Bench events.Power) (progress old sectors) (progress new after)
 power_goes identity input old new sectors after none told output follows = record {
   answers = [];
-  deeds = power_deeds (device_at identity input old);
+  deeds = deeds_at (device_at identity input old) powers;
   stepped = (refl, (refl, same));
   whole = (tt, (tt, tt));
   said = sym output;

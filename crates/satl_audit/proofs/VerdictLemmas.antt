@@ -14,11 +14,10 @@ use Rattle.satl_audit.specs.Advancing.{CannotGoOn}
 use Rattle.satl_audit.specs.Arriving.{device_at}
 use Rattle.satl_audit.specs.Deciding.{EachSectored, IsInput}
 use Rattle.satl_audit.specs.Deeds.{Deed}
-use Rattle.satl_audit.specs.Deeds.Deed.{shows, puts, gives, settles, powers}
-use Rattle.satl_audit.specs.Following.{Follows, SomeRefuses, along}
+use Rattle.satl_audit.specs.Following.{Follows, SomeRefuses, along, sectored}
 use Rattle.satl_audit.specs.Judged.{IsTaken, blank, blank_cell}
 use Rattle.satl_audit.specs.Kept.{Keeping, blank_keeping, known_sector, known_sector_at}
-use Rattle.satl_audit.specs.Sectors.{KnownSector, sector_gives, sector_power, sector_puts, sectored, settled_in}
+use Rattle.satl_audit.specs.Sectors.{KnownSector}
 use Rattle.satl_audit.specs.Skeleton.{IsExplained}
 use Rattle.satl_audit.specs.declared.arriving.Followed.{Followed}
 use Rattle.satl_audit.specs.Progress.{recorded, progress}
@@ -33,17 +32,6 @@ use Rattle.satl_audit.proofs.ReachLemmas.{decided}
 use Rattle.satl_audit.proofs.Taking.{taken_is_input}
 
 -- ---- sectors of zeros
-
--- a sector goes along with deeds exactly where they leave something of it
-sectored_along : (x : ℕ) (o : Option (List Pair)) (ds : List Deed) (m : Option KnownSector) → sectored x o ds m ≡ is_some (along x o ds m)
-sectored_along x o [] None = refl
-sectored_along x o (d ∷ ds) None = refl
-sectored_along x o [] (Some s) = refl
-sectored_along x o (shows qs ∷ ds) (Some s) = sectored_along x (Some qs) ds (Some s)
-sectored_along x o (puts qs ∷ ds) (Some s) = sectored_along x None ds (Some (sector_puts x qs s))
-sectored_along x o (gives lba blocks ∷ ds) (Some s) = sectored_along x None ds (sector_gives x lba blocks (Some s))
-sectored_along x o (settles ∷ ds) (Some s) = sectored_along x None ds (Some (settled_in s.now s.may))
-sectored_along x o (powers ∷ ds) (Some s) = sectored_along x None ds (Some (sector_power x o s))
 
 abbrev blank_sector : KnownSector
 blank_sector = record { now = Some zero_block; may = zero_block ∷ [] }
@@ -72,8 +60,7 @@ of_each ds (suc n) x h (suc k) less = let same : x + suc k ≡ suc x + k = omega
 module _ (input : List ℕ) (n : ℕ) (ds : List Deed) where
   each_follows : (after : List Keeping) → Follows input ds (replicate n blank_keeping) after → EachSectored 0 (replicate n blank_cell) ds
   each_follows after f = each_of ds n 0 (λ y le less.
-      sectored_along y None ds (Some blank_sector)
-      ∙ ap (λ (s : KnownSector). is_some (along y None ds (Some s))) (sym (blank_at input n y))
+      ap (λ (s : KnownSector). is_some (along y None ds (Some s))) (sym (blank_at input n y))
       ∙ ap (λ (o : Option KnownSector). is_some o) (f.1 y (omega (arith, less, size_blank n))))
 
   one_refuses : SomeRefuses input ds (replicate n blank_keeping) → EachSectored 0 (replicate n blank_cell) ds → ⊥
@@ -81,7 +68,7 @@ module _ (input : List ℕ) (n : ℕ) (ds : List Deed) where
       let here : r.0 ≡ 0 + r.0 = omega arith in
       both_ways _
       (ap (λ (s : KnownSector). is_some (along r.0 None ds (Some s))) (sym (blank_at input n r.0)) ∙ ap (λ (o : Option KnownSector). is_some o) r.2)
-      (sym (sectored_along r.0 None ds (Some blank_sector)) ∙ ap (λ y. sectored y None ds (Some blank_sector)) here ∙ of_each ds n 0 e r.0 (omega (arith, r.1, size_blank n)))
+      (ap (λ y. sectored y None ds (Some blank_sector)) here ∙ of_each ds n 0 e r.0 (omega (arith, r.1, size_blank n)))
 
 -- ---- verdicts
 

@@ -18,11 +18,10 @@ use Rattle.satl_audit.specs.Arriving.{device_at}
 use Rattle.satl_audit.specs.Waiting.{AllFit, Placed, device_tasks}
 use Rattle.satl_audit.specs.Deciding.{AllWhole, GivesWhole}
 use Rattle.satl_audit.specs.Deeds.{Deed}
-use Rattle.satl_audit.specs.Deeds.Deed.{shows}
 use Rattle.satl_audit.specs.Following.{Follows, GivesBlocks, PutsBlocks, SomeRefuses}
 use Rattle.satl_audit.specs.Kept.{kept_settle}
 use Rattle.satl_audit.specs.Progress.{Compared, Progress, Recorded, device_in}
-use Rattle.satl_audit.specs.Skeleton.{TaskDone, TurnsDone, pairs_shown}
+use Rattle.satl_audit.specs.Skeleton.{TaskDone, TurnsDone, deeds_at}
 use Rattle.satl_audit.specs.declared.arriving.Followed.{Followed}
 use Rattle.satl_audit.specs.declared.effects.Put.{Put}
 use Rattle.satl_audit.specs.declared.reply.Name.{Name}
@@ -59,10 +58,6 @@ abbrev pub Flushes : Name → Compared → Compared → Bool → Type 0
 Flushes name old new done = GoodComesFirst name old.output new.output done
     × (done ≡ true → new.sectors ≡ map kept_settle old.sectors)
 
--- what a task does that ends, where its pairs might show before (profile)
-abbrev pub end_deeds : Device → Deed → List Deed
-end_deeds s deed = shows (pairs_shown s) ∷ deed ∷ []
-
 -- a task ends with the answer that comes first in the output, and each sector goes along with it (SAM-5 8)
 pub record EndsOn (r : Recorded) (old new : Progress) : Type 0 where
   pub reply : Reply
@@ -70,13 +65,13 @@ pub record EndsOn (r : Recorded) (old new : Progress) : Type 0 where
   pub done : TaskDone (device_in r old) reply deed (device_in r new)
   pub whole : GivesWhole deed
   pub said : old.followed.output ≡ reply_bytes reply ++ new.followed.output
-  pub follows : Follows r.input (end_deeds (device_in r old) deed) old.sectors new.sectors
+  pub follows : Follows r.input (deeds_at (device_in r old) deed) old.sectors new.sectors
 
 -- no task can end so: of each whose answer comes first in the output some sector does not go along with it (SAM-5 8)
 abbrev pub CannotEnd : Recorded → Progress → Type 0
 CannotEnd r old = (reply : Reply) (deed : Deed) (new : Device) (left : List ℕ) →
     TaskDone (device_in r old) reply deed new → GivesWhole deed → old.followed.output ≡ reply_bytes reply ++ left →
-    SomeRefuses r.input (end_deeds (device_in r old) deed) old.sectors
+    SomeRefuses r.input (deeds_at (device_in r old) deed) old.sectors
 
 -- a task ends so, or none can (SAM-5 8)
 abbrev pub EndsOrCannot : Recorded → Progress → Progress → Bool → Type 0

@@ -1,5 +1,5 @@
 -- What deeds leave of a sector that goes along with them.
-use Rattle.std.specs.Prelude.{◌≡◌, ℕ, ◌<◌, Bool, true, false, List, [], ◌∷◌, ◌++◌, length, drop, Option, Some, None}
+use Rattle.std.specs.Prelude.{◌≡◌, ℕ, ◌<◌, Bool, true, false, List, [], ◌∷◌, ◌++◌, length, drop, is_some, Option, Some, None}
 use Rattle.satl_base.specs.declared.block.Block.{Block}
 use Rattle.satl_base.specs.declared.block.Range.{Range}
 use Rattle.satl_base.specs.Blocks.{blocks_from}
@@ -38,7 +38,8 @@ GivesBlocks input lba given old new false = (x : ℕ) × (x < length old)
 GivesBlocks input lba given old new true = (x : ℕ) → x < length old →
     sector_gives x lba (pages_of given) (Some (known_sector_at input old x)) ≡ Some (known_sector_at input new x)
 
--- what deeds leave of a sector, where these pairs have shown last; None where it does not go along with them (profile)
+-- what deeds leave of a sector, where these pairs have shown last, which matters at a loss of power alone; None where it does
+-- not go along with them (profile)
 abbrev pub along : ℕ → Option (List Pair) → List Deed → Option KnownSector → Option KnownSector
 along x o ds None = None
 along x o [] (Some s) = Some s
@@ -47,6 +48,10 @@ along x o (puts pairs ∷ ds) (Some s) = along x None ds (Some (sector_puts x pa
 along x o (gives lba blocks ∷ ds) (Some s) = along x None ds (sector_gives x lba blocks (Some s))
 along x o (settles ∷ ds) (Some s) = along x None ds (Some (settled_in s.now s.may))
 along x o (powers ∷ ds) (Some s) = along x None ds (Some (sector_power x o s))
+
+-- whether a sector goes along with deeds, where these pairs have shown last (profile)
+abbrev pub sectored : ℕ → Option (List Pair) → List Deed → Option KnownSector → Bool
+sectored x o ds s = is_some (along x o ds s)
 
 -- each sector goes along with deeds (profile)
 abbrev pub Follows : List ℕ → List Deed → List Keeping → List Keeping → Type 0

@@ -4,10 +4,7 @@ use Rattle.satl_base.specs.Cells.{Pair}
 use Rattle.satl_identify.specs.declared.identity.Identity.{Identity}
 use Rattle.satl_line.specs.declared.entry.Entry.{Entry}
 use Rattle.satl_line.specs.Eligible.{eligible_at}
-use Rattle.satl_direct.specs.Device.{Device}
 use Rattle.satl_audit.specs.Arriving.{device_without_sectors}
-use Rattle.satl_audit.specs.Deeds.{Deed}
-use Rattle.satl_audit.specs.Deeds.Deed.{shows, powers}
 use Rattle.satl_audit.specs.Guesses.{blocks_at}
 use Rattle.satl_audit.specs.Kept.{Keeping, known_sector_at}
 use Rattle.satl_audit.specs.Skeleton.{pairs_of_tasks, pairs_shown}
@@ -33,7 +30,3 @@ abbrev pub PendsAll : Identity → List ℕ → List Placed → List Keeping →
 PendsAll identity input waiting old new = (x : ℕ) → x < length old →
     (known_sector_at input new x).may
     ≡ (known_sector_at input old x).may ++ blocks_at x (pairs_shown (device_without_sectors identity input waiting []))
-
--- what a loss of power does: the pairs of the eligible tasks might show before it (SBC-3 4.15)
-abbrev pub power_deeds : Device → List Deed
-power_deeds s = shows (pairs_shown s) ∷ powers ∷ []

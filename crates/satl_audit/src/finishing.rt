@@ -8,7 +8,7 @@ ghost use Rattle.satl_audit.specs.Progress.{compared, progress, recorded};
 use crate::arriving::Followed;
 use crate::cursor::Cursor;
 use crate::effects::{Put, put_blocks, show_blocks};
-use crate::reply::{Name, head};
+use crate::reply::{Name, REPLY_HEAD, head};
 use crate::sectors::Sectors;
 use satl_base::{Nexus, NoMemory, Range, Scsi, Tag};
 use satl_cdb::Command;
@@ -19,7 +19,7 @@ fn next_name(output: &Cursor<'_>) -> Option<(Nexus, Tag)>
     ensures { NamesNext output.now result }
 {
     let rest = output.rest();
-    if rest.len() < 12 {
+    if rest.len() < REPLY_HEAD {
         return None;
     }
     let nexus = Nexus::new(rest[5])?;

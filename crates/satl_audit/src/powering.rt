@@ -6,8 +6,10 @@ ghost use Rattle.satl_identify.specs.declared.identity.Identity.{Identity};
 ghost use Rattle.satl_unit.specs.declared.attention.Attention.TheVariants as attentions;
 ghost use Rattle.satl_audit.specs.Advancing.{GoesOn};
 ghost use Rattle.satl_audit.specs.Arriving.{device_without_sectors};
+ghost use Rattle.satl_audit.specs.Deeds.Deed.{powers};
 ghost use Rattle.satl_audit.specs.Following.{Follows};
-ghost use Rattle.satl_audit.specs.Powering.{PendsAll, PendsUpTo, power_deeds, shown_from};
+ghost use Rattle.satl_audit.specs.Powering.{PendsAll, PendsUpTo, shown_from};
+ghost use Rattle.satl_audit.specs.Skeleton.{deeds_at};
 ghost use Rattle.satl_audit.specs.Waiting.{AllFit};
 ghost use Rattle.satl_audit.specs.Progress.{progress, recorded};
 
@@ -61,7 +63,7 @@ fn power_sectors(waiting: &Waiting, sectors: &mut Sectors) -> Result<(), NoMemor
     ensures length { OnOk result (length sectors.new ≡ length sectors.old) }
     ensures follows { (identity : Identity) → (input : List ℕ)
         → OnOk result
-        (Follows input (power_deeds (device_without_sectors identity input waiting.now [])) sectors.old sectors.new) }
+        (Follows input (deeds_at (device_without_sectors identity input waiting.now []) powers) sectors.old sectors.new) }
 {
     pend_tasks(waiting, sectors)?;
     sectors.power()

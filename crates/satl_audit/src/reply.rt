@@ -8,8 +8,12 @@ ghost use Rattle.satl_audit.specs.Finishing.{head_bytes};
 
 use crate::cursor::Cursor;
 use satl_base::{Nexus, Request, Scsi, SenseBytes, Tag};
-use satl_frame::{REPLY_KIND, REPLY_SIZE};
+use satl_frame::{HEAD_SIZE, REPLY_KIND, REPLY_SIZE};
 use satl_sense::{Sense, sense_bytes};
+
+/// How many bytes a reply of version 1 has before its sense: kind 1, length of the payload 4, nexus 1, status 1, tag 4, length
+/// of the sense 1 (profile).
+pub const REPLY_HEAD: usize = HEAD_SIZE + REPLY_SIZE as usize;
 
 /// The name of a task (SAM-5 4.7, I_T_L_Q nexus).
 #[derive(Clone, Copy, Debug, PartialEq, Eq)]
@@ -21,7 +25,7 @@ pub struct Name {
 }
 
 /// A reply of version 1 up to its sense: with so many bytes of sense and so many of data behind it.
-pub fn head(name: Name, status: Scsi, sense: u8, len: u64) -> [u8; 12]
+pub fn head(name: Name, status: Scsi, sense: u8, len: u64) -> [u8; REPLY_HEAD]
     requires { len < 2 ^ 63 }
     ensures { result ≡ head_bytes name.nexus name.tag.0 status sense len }
 {

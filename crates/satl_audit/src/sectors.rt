@@ -68,18 +68,18 @@ impl Stamped {
         &mut self,
         sweeps: &[Sweep],
         swept_at_loss: usize,
-        v: Content,
+        content: Content,
         cached: bool,
     ) -> Result<(), NoMemory>
         requires seen { self.old.seen ≤ length sweeps.now }
         requires at_loss { has_power (drop self.old.seen sweeps.now) ≡ nat_lt self.old.seen swept_at_loss }
         ensures kept { OnOk result (self.new.kept
-            ≡ kept_put v cached (caught_up (drop self.old.seen sweeps.now) self.old.kept)) }
+            ≡ kept_put content cached (caught_up (drop self.old.seen sweeps.now) self.old.kept)) }
         ensures seen { OnOk result (self.new.seen ≡ length sweeps.now) }
         ensures within { self.new.seen ≤ length sweeps.now }
     {
         self.catch_up(sweeps, swept_at_loss)?;
-        self.kept.put(v, cached)
+        self.kept.put(content, cached)
     }
 
     /// Catches up, and the power is lost where a block may have been put before.
@@ -87,16 +87,16 @@ impl Stamped {
         &mut self,
         sweeps: &[Sweep],
         swept_at_loss: usize,
-        v: Content,
+        content: Content,
     ) -> Result<(), NoMemory>
         requires seen { self.old.seen ≤ length sweeps.now }
         requires at_loss { has_power (drop self.old.seen sweeps.now) ≡ nat_lt self.old.seen swept_at_loss }
-        ensures kept { OnOk result (self.new.kept ≡ kept_pending v (caught_up (drop self.old.seen sweeps.now) self.old.kept)) }
+        ensures kept { OnOk result (self.new.kept ≡ kept_pending content (caught_up (drop self.old.seen sweeps.now) self.old.kept)) }
         ensures seen { OnOk result (self.new.seen ≡ length sweeps.now) }
         ensures within { self.new.seen ≤ length sweeps.now }
     {
         self.catch_up(sweeps, swept_at_loss)?;
-        self.kept.pending(v)
+        self.kept.pending(content)
     }
 
     /// Catches up, and a READ gave 512 bytes: whether the sector may have them.
@@ -199,22 +199,22 @@ impl Sectors {
 
     /// A block is put at an address, through the cache or past it (SBC-3 4.15). `NoMemory` leaves sectors of which nothing is
     /// said.
-    pub fn put(&mut self, lba: usize, v: Content, cached: bool) -> Result<(), NoMemory>
+    pub fn put(&mut self, lba: usize, content: Content, cached: bool) -> Result<(), NoMemory>
         requires { lba < length self.old }
         ensures length { length self.new ≡ length self.old }
-        ensures put { OnOk result (self.new ≡ slice_set self.old lba (kept_put v cached (kept_at self.old lba))) }
+        ensures put { OnOk result (self.new ≡ slice_set self.old lba (kept_put content cached (kept_at self.old lba))) }
     {
-        self.stamped[lba].put(&self.sweeps, self.swept_at_loss, v, cached)
+        self.stamped[lba].put(&self.sweeps, self.swept_at_loss, content, cached)
     }
 
     /// The power is lost at an address where this block may have been put before (SBC-3 4.15). `NoMemory` leaves sectors of
     /// which nothing is said.
-    pub fn pending(&mut self, lba: usize, v: Content) -> Result<(), NoMemory>
+    pub fn pending(&mut self, lba: usize, content: Content) -> Result<(), NoMemory>
         requires { lba < length self.old }
         ensures length { length self.new ≡ length self.old }
-        ensures pending { OnOk result (self.new ≡ slice_set self.old lba (kept_pending v (kept_at self.old lba))) }
+        ensures pending { OnOk result (self.new ≡ slice_set self.old lba (kept_pending content (kept_at self.old lba))) }
     {
-        self.stamped[lba].pending(&self.sweeps, self.swept_at_loss, v)
+        self.stamped[lba].pending(&self.sweeps, self.swept_at_loss, content)
     }
 
     /// A READ gave 512 bytes at an address: whether its sector may have them; then they are its block (SBC-3, READ commands).

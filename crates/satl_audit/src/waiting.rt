@@ -2,6 +2,7 @@
 ghost use Rattle.std.specs.Prelude.{◌≡◌, ◌<◌, ◌≤◌, ◌==◌, ◌++◌, ◌∷◌, [], IfOk, Some, true, false, not, length, slice_get, remove};
 ghost use Rattle.std.specs.List.{position_from};
 ghost use Rattle.std.specs.Option.{option_map};
+ghost use Rattle.satl_base.specs.Limits.{most_tasks};
 ghost use Rattle.satl_line.specs.Eligible.{eligible_at};
 ghost use Rattle.satl_audit.specs.Waiting.{entries_in, has_name, has_no_room};
 
@@ -46,7 +47,7 @@ impl Waiting {
     /// How many there are.
     pub fn len(&self) -> usize
         ensures value { result ≡ length self.now }
-        ensures few { result ≤ 64 }
+        ensures few { result ≤ most_tasks }
     {
         self.tasks.len()
     }

@@ -14,5 +14,5 @@ returns-clause-pending c =
     let there = ap (λ (ss : List Sweep). caught_up (drop t.seen ss) t.kept) c.deref.ensures.value ∙ kept_there old.sweeps.items old.stamped.items c.args.self.now c.args.lba t c.self.view_is c.requires c.index_mut.ensures.value in
     on_both c.pending.result _ _ _
     (λ kept seen. set_kept old.sweeps.items old.stamped.items c.args.self.now c.args.lba c.pending.new.self c.self.view_is (seen ∙ ap (λ (ss : List Sweep). length ss) c.deref.ensures.value)
-    ∙ ap (λ (k : Keeping). slice_set c.args.self.now c.args.lba k) (kept ∙ ap (λ (k : Keeping). kept_pending c.args.v k) there))
+    ∙ ap (λ (k : Keeping). slice_set c.args.self.now c.args.lba k) (kept ∙ ap (λ (k : Keeping). kept_pending c.args.content k) there))
     c.pending.ensures.kept c.pending.ensures.seen
