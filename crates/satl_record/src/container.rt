@@ -12,17 +12,23 @@ use crate::fault::RecordFault;
 use byteorder::{BigEndian, ByteOrder};
 use satl_base::NoMemory;
 use satl_frame::fill;
-use satl_io::{Failed, Source};
+use satl_io::Source;
 use std::alloc::Global;
 
 /// What a record begins with.
 const MAGIC: [u8; 8] = *b"SATLAUD1";
 
+/// How many bytes tell the length of the input, behind the magic.
+const LENGTH_BYTES: usize = 8;
+
+/// How many bytes stand before the input.
+const HEAD: usize = MAGIC.len() + LENGTH_BYTES;
+
 /// The most bytes that the input of a record has, and its output (profile).
-const LONGEST: usize = 0x0400_0000;
+const LONGEST_PART: usize = 67_108_864;
 
 /// How many bytes are read at once, at most.
-const PIECE: usize = 4096;
+const PIECE_BYTES: usize = 4096;
 
 /// A recorded run: the input, and the output that was seen.
 #[derive(Drop)]
@@ -50,10 +56,7 @@ fn read_piece<S: Source>(source: &mut S, piece: &mut [u8]) -> Result<usize, Reco
     ensures kinds { IfErr result (λ fault. fault ≡ faults.Read) }
     ensures cause { HasCause (S.faults source.old) (S.faults source.new) result }
 {
-    match fill(source, piece) {
-        Ok(read) => Ok(read),
-        Err(Failed) => Err(RecordFault::Read),
-    }
+    fill(source, piece).map_err(|_| RecordFault::Read)
 }
 
 /// The next bytes of a source, at most so many: fewer only where no more are left.
@@ -72,9 +75,9 @@ fn read_bytes<S: Source>(
     ensures failed { IsErrOf result faults.Read → Rose (S.faults source.old) (S.faults source.new) }
 {
     let mut bytes = Vec::new(alloc);
-    let mut piece = [0; PIECE];
+    let mut piece = [0; PIECE_BYTES];
     while bytes.len() < count {
-        let room = (count - bytes.len()).min(PIECE);
+        let room = (count - bytes.len()).min(PIECE_BYTES);
         let read = read_piece(source, &mut piece[..room])?;
         add(&mut bytes, &piece[..read])?;
         if read < room {
@@ -92,11 +95,11 @@ fn told_length(head: &[u8]) -> Option<usize>
     ensures none { result ≡ None → (n : ℕ) → n ≤ longest_part → head.now ≡ record_magic ++ big_bytes 8 n → ⊥ }
 {
     let number = head.strip_prefix(&MAGIC)?;
-    if number.len() != 8 {
+    if number.len() != LENGTH_BYTES {
         return None;
     }
     let length = BigEndian::read_u64(number);
-    if length > LONGEST as u64 {
+    if length > LONGEST_PART as u64 {
         return None;
     }
     Some(length as usize)
@@ -112,15 +115,9 @@ fn read_head<S: Source>(source: &mut S) -> Result<usize, RecordFault>
     ensures later { S.faults source.old ≤ S.faults source.new }
     ensures failed { IsErrOf result faults.Read → Rose (S.faults source.old) (S.faults source.new) }
 {
-    let mut head = [0; 16];
-    let count = match fill(source, &mut head) {
-        Ok(count) => count,
-        Err(Failed) => return Err(RecordFault::Read),
-    };
-    match told_length(&head[..count]) {
-        Some(length) => Ok(length),
-        None => Err(RecordFault::NoRecord),
-    }
+    let mut head = [0; HEAD];
+    let count = read_piece(source, &mut head)?;
+    told_length(&head[..count]).ok_or(RecordFault::NoRecord)
 }
 
 /// Reads a record, and its source to the end (profile). `NoRecord` where the bytes are none; `Read` only where the source's
@@ -139,8 +136,8 @@ pub fn read_record<S: Source>(alloc: Global, source: &mut S) -> Result<Record, R
     if input.len() < length {
         return Err(RecordFault::NoRecord);
     }
-    let output = read_bytes(alloc, source, LONGEST + 1)?;
-    if output.len() > LONGEST {
+    let output = read_bytes(alloc, source, LONGEST_PART + 1)?;
+    if output.len() > LONGEST_PART {
         return Err(RecordFault::NoRecord);
     }
     Ok(Record { input, output })

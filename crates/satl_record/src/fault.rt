@@ -1,6 +1,9 @@
 // Why a record is not judged.
 
 use satl_base::NoMemory;
+use satl_drive::LinkDown;
+use satl_frame::WriteFault;
+use satl_identify::IdentityFault;
 
 /// Why a record is not judged, or what is found is not told (profile).
 #[derive(Clone, Copy, Debug, PartialEq, Eq)]
@@ -27,5 +30,38 @@ impl From<NoMemory> for RecordFault {
 
     fn from(_: NoMemory) -> RecordFault {
         RecordFault::NoMemory
+    }
+}
+
+impl From<LinkDown> for RecordFault {
+    ghost use Rattle.std.specs.Prelude.{◌≡◌};
+    ghost use Rattle.satl_record.specs.declared.fault.RecordFault.TheVariants as faults;
+
+    ghost from_gives = { λ _ e. e ≡ faults.Drive };
+
+    fn from(_: LinkDown) -> RecordFault {
+        RecordFault::Drive
+    }
+}
+
+impl From<IdentityFault> for RecordFault {
+    ghost use Rattle.std.specs.Prelude.{◌≡◌};
+    ghost use Rattle.satl_record.specs.declared.fault.RecordFault.TheVariants as faults;
+
+    ghost from_gives = { λ _ e. e ≡ faults.Drive };
+
+    fn from(_: IdentityFault) -> RecordFault {
+        RecordFault::Drive
+    }
+}
+
+impl From<WriteFault> for RecordFault {
+    ghost use Rattle.std.specs.Prelude.{◌≡◌};
+    ghost use Rattle.satl_record.specs.declared.fault.RecordFault.TheVariants as faults;
+
+    ghost from_gives = { λ _ e. e ≡ faults.Write };
+
+    fn from(_: WriteFault) -> RecordFault {
+        RecordFault::Write
     }
 }

@@ -9,7 +9,7 @@ ghost use Rattle.satl_record.specs.declared.fault.RecordFault.TheVariants as fau
 use crate::fault::RecordFault;
 use satl_barrier::tell_identity;
 use satl_base::{Page, Pages, Steps};
-use satl_drive::{Drive, LinkDown};
+use satl_drive::Drive;
 use satl_identify::{Identity, read_identity};
 use std::alloc::Global;
 use std::sync::ledger::Ledger;
@@ -34,12 +34,6 @@ pub fn told_identity<D: Drive<L>, L: Ledger>(
     let page = Page::zeroed(alloc)?;
     let mut pages = Pages::default();
     pages.push_first(page);
-    match tell_identity(drive, &mut pages, steps) {
-        Ok(()) => {}
-        Err(LinkDown) => return Err(RecordFault::Drive),
-    }
-    match read_identity(&pages.block(0).bytes) {
-        Ok(identity) => Ok(identity),
-        Err(_) => Err(RecordFault::Drive),
-    }
+    tell_identity(drive, &mut pages, steps)?;
+    Ok(read_identity(&pages.block(0).bytes)?)
 }

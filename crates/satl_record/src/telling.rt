@@ -10,7 +10,7 @@ use crate::fault::RecordFault;
 use itoa::Buffer;
 use satl_audit::Verdict;
 use satl_base::append;
-use satl_frame::{OutFrame, Reason, WriteFault, push};
+use satl_frame::{OutFrame, Reason, push};
 use satl_io::Sink;
 use satl_text::{Text, write_line};
 
@@ -43,10 +43,8 @@ pub fn tell_verdict<K: Sink>(sink: &mut K, verdict: Verdict) -> Result<Verdict, 
 {
     let mut text = words_of(verdict);
     text.push(b'\n');
-    match push(sink, text.as_slice()) {
-        Ok(()) => Ok(verdict),
-        Err(WriteFault) => Err(RecordFault::Write),
-    }
+    push(sink, text.as_slice())?;
+    Ok(verdict)
 }
 
 /// Appends the line of a refused input to the bytes of the sink, and is `BadInput` then. `Write` comes only where the sink's
@@ -60,8 +58,6 @@ pub fn tell_refusal<K: Sink>(
     ensures later { K.faults sink.old ≤ K.faults sink.new }
     ensures failed { IsErrOf result faults.Write → Rose (K.faults sink.old) (K.faults sink.new) }
 {
-    match write_line(OutFrame::Fault { reason, offset }, sink) {
-        Ok(()) => Err(RecordFault::BadInput),
-        Err(WriteFault) => Err(RecordFault::Write),
-    }
+    write_line(OutFrame::Fault { reason, offset }, sink)?;
+    Err(RecordFault::BadInput)
 }
