@@ -40,11 +40,14 @@ pub enum Data {
     },
 }
 
-/// Data-in before they are cut, at most 572 bytes.
-pub type Text = ArrayVec<u8, 576>;
+/// The room of a text in bytes. The longest, the page of ATA information (SAT-3), has 572.
+const TEXT_ROOM: usize = 576;
+
+/// Data-in before they are cut.
+pub type Text = ArrayVec<u8, TEXT_ROOM>;
 
 fn text(bytes: &[u8]) -> Text
-    requires { length bytes.now ≤ 576 }
+    requires { length bytes.now ≤ TEXT_ROOM }
     ensures { result.items ≡ bytes.now }
 {
     let mut text = Text::new();
@@ -52,6 +55,7 @@ fn text(bytes: &[u8]) -> Text
     text
 }
 
+/// A page of vital product data, or nothing where there is none of this code.
 fn page_text(identity: &Identity, page: u8) -> Text
     ensures { result.items ≡ unwrap_or (vpd_page page identity.now) [] }
 {
@@ -61,6 +65,8 @@ fn page_text(identity: &Identity, page: u8) -> Text
     }
 }
 
+/// The list of LUNs by SELECT REPORT: 1, the well known units alone, lists none, and each other value LUN 0 (SPC-4, REPORT LUNS
+/// command).
 fn lun_text(select: u8) -> Text
     ensures { result.items ≡ lun_list select }
 {
@@ -98,7 +104,8 @@ pub fn padded(bytes: &[u8]) -> Block
     Block { bytes: block }
 }
 
-/// Bytes in pages of the pool; what is left of the last page is zero.
+/// At most 1,024 bytes in pages of the pool, 512 in each; what is left of the last page is zero. The last page is filled first,
+/// as each is put before those that are done.
 fn in_pages(pool: &mut Pool, bytes: &[u8]) -> Pages
     requires few { length bytes.now ≤ 1024 }
     requires room { 2 ≤ pool.old.free }
@@ -122,8 +129,8 @@ fn in_pages(pool: &mut Pool, bytes: &[u8]) -> Pages
     done
 }
 
-/// GOOD with what the device says of itself, cut to the allocation length (SPC-4 4.3.5.6). A function of its own, so that no
-/// other answer pays for the room of its text.
+/// GOOD with what the device says of itself, cut to the allocation length in bytes (SPC-4 4.3.5.6), in at most two pages of the
+/// pool. A function of its own, so that no other answer pays for the room of its text.
 pub fn tell(
     pool: &mut Pool,
     identity: &Identity,
@@ -144,7 +151,7 @@ pub fn tell(
 
 /// GOOD with data-in, cut to the allocation length (SPC-4 4.3.5.6).
 fn told(pool: &mut Pool, request: &Request, alloc: u32, text: &[u8]) -> Reply
-    requires few { length text.now ≤ 576 }
+    requires few { length text.now ≤ TEXT_ROOM }
     requires room { 2 ≤ pool.old.free }
     ensures reply { result ≡ good_with_data request.now alloc text.now }
     ensures free { pool.new.free + length result.body ≡ pool.old.free }
