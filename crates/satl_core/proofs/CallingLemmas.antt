@@ -11,7 +11,7 @@ use Rattle.satl_line.specs.Tasks.{Held}
 use Rattle.satl_core.specs.declared.alone.Alone.{Alone}
 use Rattle.satl_core.specs.declared.turning.Ending.{Ending}
 use Rattle.satl_core.specs.Alone.{alone_of}
-use Rattle.satl_core.specs.Calling.{OnlyIssues, ResetsFor, TellEnd, calls_alone, calls_if_alone, calls_of_first, calls_of_turn, is_first_unready, is_unready}
+use Rattle.satl_core.specs.Calling.{OnlyIssues, ResetsFor, TellEnd, calls_alone, calls_if_alone, calls_of_first, calls_of_task, is_first_unready, is_unready}
 use Rattle.satl_core.specs.Layer.{IsUsed, Layer}
 use Rattle.satl_core.specs.Leaving.{AreWaiting}
 use Rattle.satl_core.specs.Turning.{ended_reply, ending_by, started_after}
@@ -21,11 +21,11 @@ use Rattle.satl_flight.specs.Settled.{IsFilled}
 -- ---- a task that runs alone
 
 -- where it is not refused, its turn takes what its command takes
-pub alone_turn : (started : Bool) (command : Command) (alone : Alone) → is_unready started command ≡ false → alone_of command ≡ Some alone → calls_of_turn started command ≡ calls_alone alone
+pub alone_turn : (started : Bool) (command : Command) (alone : Alone) → is_unready started command ≡ false → alone_of command ≡ Some alone → calls_of_task started command ≡ calls_alone alone
 alone_turn started command alone ready is = ap (λ b. if b then 0 else calls_if_alone (alone_of command)) ready ∙ ap calls_if_alone is
 
-pub first_turn : (started : Bool) (tasks rest : List Held) (entry : Entry) → IsFirst tasks entry rest → calls_of_first started tasks ≡ calls_of_turn started entry.command
-first_turn started tasks rest entry first = rw first.are (ap (λ (e : Entry). calls_of_turn started e.command) first.entry_is)
+pub first_turn : (started : Bool) (tasks rest : List Held) (entry : Entry) → IsFirst tasks entry rest → calls_of_first started tasks ≡ calls_of_task started entry.command
+first_turn started tasks rest entry first = rw first.are (ap (λ (e : Entry). calls_of_task started e.command) first.entry_is)
 
 pub first_unready : (started : Bool) (tasks rest : List Held) (entry : Entry) → IsFirst tasks entry rest → is_first_unready started tasks ≡ is_unready started entry.command
 first_unready started tasks rest entry first = rw first.are (ap (λ (e : Entry). is_unready started e.command) first.entry_is)

@@ -186,7 +186,7 @@ module _ (identity : Identity) (modes : Modes) (started : Bool) (attentions : Li
 
   -- a flaw is met, where nothing is written
   flawed_turn : (c : Command) (t : Transfer) (at : ℕ) → (not started && (asks c).needs_started) ≡ false → wakes c ≡ true → t.writes ≡ [] → barrier.StopsAtFlaw t at d d'
-      → ((reply : Reply) (new : Device) → IsChecked (read_error at) (roused c) (task_of (asking c)) reply new → EndsBy c (roused c) (task_of (asking c)) reply new) → EndsSo c (medium.flawed false at)
+      → ((reply : Reply) (new : Device) → IsChecked (read_error at) (roused c) (task_of (asking c)) reply new → EndsBy c (roused c) (task_of (asking c)) reply new) → EndsSo c (endings.Check (read_error at))
   flawed_turn c t at ready wake none x how =
       torn_turn identity modes started attentions (asking c) others d d' ready wake t (read_error at) x.torn (ap (λ (y : DriveState). y.down) x.stays)
       (λ reply new answer same. how reply new (record { answer = answer; stays = stays_so (roused c) new x.torn.torn (without (task_of (asking c)) (task_of (asking c) ∷ others)) d'.glitches same (subst (λ ps. Part d.cells ps x.torn.torn) none x.torn.part) (ap (λ (y : DriveState). y.glitches) x.stays) }))

@@ -2,6 +2,7 @@
 use Rattle.std.proofs.Common.{◌≡◌, refl, ap, sym, subst, ◌∙◌, arith, cond, ℕ, zero, suc, ◌+◌, ◌*◌, ◌/◌, ◌%◌, ◌^◌, ◌<◌, ◌≤◌, Bool, true, false, List, [], ◌∷◌, length, take, Some, None}
 use Rattle.std.specs.Prelude.{Option, Result, Ok, Err, not, nat_lt, nat_le, ◌==◌, slice_index}
 use Rattle.std.specs.Option.{option_map}
+use Rattle.std.specs.Result.{result_err}
 use Rattle.std.specs.List.{AllByRecursion}
 use Rattle.std.proofs.lemmas.Bool.{ltb-false}
 use Rattle.std.proofs.lemmas.List.{get_or-take}
@@ -173,18 +174,10 @@ change_same a b length ten agree =
 
 -- ---- what reading a list says
 
-pub said_ok : (i : Identity) (m new : Modes) (list : List Block) (length : ℕ) (ten : Bool) → Ok new ≡ select_says i m list length ten → None ≡ select_fault i m list length ten
+pub said : (i : Identity) (m : Modes) (list : List Block) (length : ℕ) (ten : Bool) (found : Result Modes Illegal) → found ≡ select_says i m list length ten → result_err found ≡ select_fault i m list length ten
 unfolding select_says
-said_ok i m new list length ten e = by (select_fault i m list length ten) (applied m (change_in list length ten)) e
+said i m list length ten found e = ap result_err e ∙ by (select_fault i m list length ten) (applied m (change_in list length ten))
   where
-    by : (o : Option Illegal) (v : Modes) → Ok new ≡ unless_fault o v → None ≡ o
-    by None v e = refl
-    by (Some why) v e = absurd cc
-
-pub said_err : (i : Identity) (m : Modes) (why : Illegal) (list : List Block) (length : ℕ) (ten : Bool) → Err why ≡ select_says i m list length ten → Some why ≡ select_fault i m list length ten
-unfolding select_says
-said_err i m why list length ten e = by (select_fault i m list length ten) (applied m (change_in list length ten)) e
-  where
-    by : (o : Option Illegal) (v : Modes) → Err why ≡ unless_fault o v → Some why ≡ o
-    by None v e = absurd cc
-    by (Some other) v e = cc
+    by : (o : Option Illegal) (v : Modes) → result_err (unless_fault o v) ≡ o
+    by None v = refl
+    by (Some why) v = refl

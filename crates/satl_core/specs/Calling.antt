@@ -20,8 +20,8 @@ use Rattle.satl_core.specs.declared.alone.Alone.{Alone}
 use Rattle.satl_core.specs.declared.alone.Alone.TheVariants as alones
 
 -- the most drive calls of a command that runs alone: one for each mode value that a MODE SELECT changes on the drive, a flush
--- before a stop, for a comparison one that finds flaws and one for each 64 blocks, for a WRITE SAME one for each 64 blocks, and
--- one for each other command (SAT-3 8; profile)
+-- and the stop, for a comparison one that finds flaws and one for each piece of 64 blocks, for a WRITE SAME one for each such
+-- piece, and one for each other command (SAT-3 8; profile)
 abbrev pub calls_alone : Alone → ℕ
 calls_alone alones.Select = 2
 calls_alone (alones.Switch start no_flush) = 2
@@ -40,13 +40,13 @@ calls_if_alone None = 0
 calls_if_alone (Some alone) = calls_alone alone
 
 -- the most drive calls of a task whose turn it is and which is not outstanding (profile)
-abbrev pub calls_of_turn : Bool → Command → ℕ
-calls_of_turn started command = if is_unready started command then 0 else calls_if_alone (alone_of command)
+abbrev pub calls_of_task : Bool → Command → ℕ
+calls_of_task started command = if is_unready started command then 0 else calls_if_alone (alone_of command)
 
 -- those of the first task
 abbrev pub calls_of_first : Bool → List Held → ℕ
 calls_of_first started [] = 0
-calls_of_first started (h ∷ hs) = calls_of_turn started h.entry.command
+calls_of_first started (h ∷ hs) = calls_of_task started h.entry.command
 
 -- whether the first task is refused so
 abbrev pub is_first_unready : Bool → List Held → Bool

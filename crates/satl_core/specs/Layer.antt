@@ -4,7 +4,7 @@ use Rattle.std.specs.List.{AllByRecursion, sum_by}
 use Rattle.satl_base.specs.declared.block.Range.{Range}
 use Rattle.satl_base.specs.declared.modes.Modes.{Modes}
 use Rattle.satl_base.specs.declared.reply.Reply.{Reply}
-use Rattle.satl_base.specs.Limits.{IsExpectable, most_covered, most_moved}
+use Rattle.satl_base.specs.Limits.{IsExpectable, most_covered, most_moved, most_tasks}
 use Rattle.satl_base.specs.Blocks.{over}
 use Rattle.satl_cdb.specs.declared.command.Command.{Command}
 use Rattle.satl_cdb.specs.declared.command.Command.TheVariants.{Flush, ModeSelect, Pass, Read, StartStop, Unmap, Verify, Write, WriteSame}
@@ -142,6 +142,10 @@ IsUsed l = MatchBool (works l) (IsFilled l.flying l.tasks) (l.flying ≡ [])
 pub record Tied (l : Layer) (d : DriveState) : Type 0 where
   pub agrees : Agrees l d
   pub used : IsUsed l
+
+-- the most replies of one call: one for each task of a full set, and one more (profile)
+abbrev pub most_replies : ℕ
+most_replies = most_tasks + 1
 
 -- the pages in replies (profile)
 abbrev pub reply_pages : List Reply → ℕ

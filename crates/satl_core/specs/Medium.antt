@@ -1,5 +1,5 @@
 -- How commands end that go over the medium alone on the drive.
-use Rattle.std.specs.Prelude.{◌≡◌, ◌≤◌, ℕ, ◌+◌, Bool, true, false, if◌then◌else◌, List, [], ◌∷◌, Option, Some, None, length, get_or}
+use Rattle.std.specs.Prelude.{◌≡◌, ◌≤◌, ℕ, ◌+◌, Bool, true, if◌then◌else◌, List, [], ◌∷◌, Option, Some, None, length, get_or}
 use Rattle.std.specs.List.{AllByRecursion}
 use Rattle.satl_base.specs.declared.block.Block.{Block}
 use Rattle.satl_base.specs.declared.block.Range.{Range}
@@ -32,26 +32,22 @@ use Rattle.satl_core.specs.declared.alone.Alone.TheVariants as alones
 use Rattle.satl_core.specs.declared.turning.Ending.{Ending}
 use Rattle.satl_core.specs.declared.turning.Ending.TheVariants as endings
 
--- a medium error at an address (SPC-4 4.5.6)
-abbrev pub flawed : Bool → ℕ → Ending
-flawed writes lba = endings.Check (if writes then write_error lba else read_error lba)
-
 -- how a VERIFY without comparison ends (SBC-3, VERIFY commands)
 abbrev pub ending_of_verify : Option ℕ → Ending
 ending_of_verify None = endings.Good
-ending_of_verify (Some lba) = flawed false lba
+ending_of_verify (Some lba) = endings.Check (read_error lba)
 
 -- how a VERIFY with comparison ends (SBC-3, VERIFY commands, BYTCHK)
 abbrev pub ending_of_comparison : Comparison → Ending
 ending_of_comparison comparisons.Same = endings.Good
 ending_of_comparison comparisons.Differs = endings.Check miscompare
-ending_of_comparison (comparisons.Flawed lba) = flawed false lba
+ending_of_comparison (comparisons.Flawed lba) = endings.Check (read_error lba)
 ending_of_comparison comparisons.Garbled = endings.Check crc_error
 
 -- how a WRITE SAME or a trim ends (SAT-3 11)
 abbrev pub ending_of_finish : Finish → Ending
 ending_of_finish finishes.Done = endings.Good
-ending_of_finish (finishes.Flawed lba) = flawed true lba
+ending_of_finish (finishes.Flawed lba) = endings.Check (write_error lba)
 ending_of_finish finishes.Garbled = endings.Check crc_error
 
 -- a range was verified, and the task ends so (SBC-3, VERIFY commands)

@@ -1,5 +1,5 @@
 -- How the layer ends a task.
-use Rattle.std.specs.Prelude.{◌≡◌, ℕ, ◌*◌, ◌+◌, ◌&&◌, not, Bool, true, false, if◌then◌else◌, List, [], ◌∷◌, length, map, min, get_or, MatchBool, IsSomeAnd, Option, Some, None, unwrap_or}
+use Rattle.std.specs.Prelude.{◌≡◌, ℕ, ◌*◌, ◌+◌, not, Bool, true, false, if◌then◌else◌, List, [], ◌∷◌, length, map, min, get_or, MatchBool, IsSomeAnd, Option, Some, None, unwrap_or}
 use Rattle.std.specs.Option.{option_map}
 use Rattle.satl_base.specs.declared.block.Block.{Block}
 use Rattle.satl_base.specs.declared.modes.Modes.{Modes}
@@ -22,7 +22,7 @@ use Rattle.satl_errlog.specs.declared.entry.NcqError.{NcqError}
 use Rattle.satl_line.specs.declared.entry.Entry.{Entry}
 use Rattle.satl_line.specs.Tasks.{Held}
 use Rattle.satl_direct.specs.Attentions.{are_same_modes}
-use Rattle.satl_direct.specs.Tasks.{asks, pass_of}
+use Rattle.satl_direct.specs.Tasks.{pass_of}
 use Rattle.satl_pass.specs.Status.{error_sense_at}
 use Rattle.satl_direct.specs.Senses.{link_lost, not_ready, sense_spelled}
 use Rattle.satl_drive.specs.State.{DriveState}
@@ -32,6 +32,7 @@ use Rattle.satl_barrier.specs.Settings.{IsTuned}
 use Rattle.satl_barrier.specs.Flushing.{IsLeftWith, IsSwitched}
 use Rattle.satl_core.specs.Medium.{HasCompared, HasFinished, HasVerified, HasWhole, PassesThrough, pages_on, written_alone}
 use Rattle.satl_core.specs.Alone.{alone_of}
+use Rattle.satl_core.specs.Calling.{is_unready}
 use Rattle.satl_core.specs.declared.alone.Alone.{Alone}
 use Rattle.satl_core.specs.declared.alone.Alone.TheVariants as alones
 use Rattle.satl_core.specs.declared.managing.Posting.{Posting}
@@ -83,13 +84,22 @@ lost_replies descriptor tasks = map (λ h. ended_reply h.entry (endings.Check li
 abbrev pub barrier_calls : ℕ
 barrier_calls = most_pieces
 
+-- the most calls of a drive that issuing takes: one for each of its tags (ACS-3, native command queuing)
+abbrev pub issue_calls : ℕ
+issue_calls = 32
+
+-- the most calls of a drive in which one queued command ends: a poll, and the read of the error log (ACS-3, native command
+-- queuing)
+abbrev pub poll_calls : ℕ
+poll_calls = 2
+
 -- the most calls of a drive that one turn takes: those of a command, and what is issued behind it (profile)
 abbrev pub turn_calls : ℕ
-turn_calls = barrier_calls + 32
+turn_calls = barrier_calls + issue_calls
 
 -- the most calls of a drive that taking tasks off takes: a reset, and what is issued behind it (profile)
 abbrev pub off_calls : ℕ
-off_calls = 1 + 32
+off_calls = 1 + issue_calls
 
 -- whether a command is a READ; each other command that is queued writes, or trims (SBC-3 5)
 abbrev pub is_read : Command → Bool
@@ -153,14 +163,14 @@ DoneAlone wanted ending old new = IsSomeAnd (alone_of old.task.command) (λ alon
 abbrev pub TaskEnds : Circumstances → Ending → TaskOnDrive → TaskOnDrive → Type 0
 TaskEnds found ending old new =
     MatchBool found.down (IsUnasked link_lost old.drive ending new.drive)
-    (MatchBool (not found.started && (asks old.task.command).needs_started) (IsUnasked not_ready old.drive ending new.drive)
+    (MatchBool (is_unready found.started old.task.command) (IsUnasked not_ready old.drive ending new.drive)
     (DoneAlone found.wanted ending old new))
 
 -- the link was lost while a task was carried out that writes these pairs, at a unit that is started where the command needs it
 -- (profile)
 pub record IsLostInTask (down started : Bool) (t : Entry) (old new : DriveState) : Type 0 where
   pub was_up : down ≡ false
-  pub ready : (not started && (asks t.command).needs_started) ≡ false
+  pub ready : is_unready started t.command ≡ false
   pub pairs : List Pair
   pub written : IsSomeAnd (alone_of t.command) (λ alone. HasWhole alone t × (pairs ≡ written_alone alone t old))
   pub lost : IsLostIn pairs old new

@@ -13,7 +13,12 @@ pub enum Alone {
     /// Sets the drive by the mode values that the task wants.
     Select,
     /// Starts or stops the unit.
-    Switch { start: bool, no_flush: bool },
+    Switch {
+        /// Starts it, and does not stop it.
+        start: bool,
+        /// Stops it without a flush before.
+        no_flush: bool,
+    },
     /// Reads a range for its flaws.
     Verify(Range),
     /// Compares a range with the data-out.
@@ -25,7 +30,10 @@ pub enum Alone {
     /// Trims the ranges of the task.
     TrimList,
     /// A host's own ATA command.
-    Through { cdb: [u8; 16] },
+    Through {
+        /// The ATA PASS-THROUGH that carries it.
+        cdb: [u8; 16],
+    },
 }
 
 impl Alone {

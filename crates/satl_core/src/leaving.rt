@@ -10,12 +10,16 @@ use satl_flight::Queue;
 use satl_line::{Entry, TaskBox};
 use satl_pages::Pool;
 
-/// Some of the tasks: one by its name, those of a nexus, all, or none (SAM-5 7).
+/// Some of the tasks (SAM-5 7).
 #[derive(Clone, Copy, Debug, PartialEq, Eq)]
 pub enum Scope {
+    /// The task of this nexus with this tag.
     OneTask(Nexus, Tag),
+    /// The tasks of this nexus.
     OfNexus(Nexus),
+    /// All tasks.
     All,
+    /// No task.
     Nothing,
 }
 

@@ -115,7 +115,7 @@ pub fn post(attentions: &mut [Attentions; NEXUSES], queue: &Queue, posts: &Optio
 fn post_all(attentions: &mut [Attentions; NEXUSES], queue: &Queue, posting: &Posting)
     ensures { attentions.new ≡ once_posted (Some posting.now) queue.now.tasks attentions.old }
 {
-    for number in 0..4 {
+    for number in 0..NEXUSES as u8 {
         let Some(nexus) = Nexus::new(number) else {
             unreachable!();
         };

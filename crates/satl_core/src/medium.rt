@@ -129,7 +129,7 @@ fn verified(flaw: Option<u64>) -> Ending
 {
     match flaw {
         None => Ending::Good,
-        Some(lba) => flawed(false, lba),
+        Some(lba) => read_flaw(lba),
     }
 }
 
@@ -141,7 +141,7 @@ fn compared(comparison: Comparison) -> Ending
     match comparison {
         Comparison::Same => Ending::Good,
         Comparison::Differs => Ending::Check(miscompare()),
-        Comparison::Flawed { lba } => flawed(false, lba),
+        Comparison::Flawed { lba } => read_flaw(lba),
         Comparison::Garbled => garbled(),
     }
 }
@@ -152,16 +152,23 @@ fn finished(finish: Finish) -> Ending
 {
     match finish {
         Finish::Done => Ending::Good,
-        Finish::Flawed { lba } => flawed(true, lba),
+        Finish::Flawed { lba } => write_flaw(lba),
         Finish::Garbled => garbled(),
     }
 }
 
-/// A MEDIUM ERROR at an address (SAT-3 11).
-fn flawed(writes: bool, lba: u64) -> Ending
-    ensures { result ≡ medium.flawed writes lba }
+/// A MEDIUM ERROR at an address that could not be read (SAT-3 11).
+fn read_flaw(lba: u64) -> Ending
+    ensures { result ≡ Ending.Check (Senses.read_error lba) }
 {
-    Ending::Check(error_sense_at(writes, UNC, lba))
+    Ending::Check(error_sense_at(false, UNC, lba))
+}
+
+/// A MEDIUM ERROR at an address that could not be written (SAT-3 11).
+fn write_flaw(lba: u64) -> Ending
+    ensures { result ≡ Ending.Check (Senses.write_error lba) }
+{
+    Ending::Check(error_sense_at(true, UNC, lba))
 }
 
 /// A CRC error (SAT-3 11).

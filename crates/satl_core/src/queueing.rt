@@ -11,10 +11,10 @@ ghost use Rattle.satl_direct.specs.Run.{MayLose};
 ghost use Rattle.satl_flight.specs.Settled.{IsFilled};
 ghost use Rattle.satl_core.specs.Calling.{OnlyIssues, PollsOnce, ResetsFor, calls_of_first, is_first_unready};
 ghost use Rattle.satl_core.specs.Flushed.{IsFlushed, IsSettled};
-ghost use Rattle.satl_core.specs.Layer.{Agrees, Tied, reply_pages, view, works};
+ghost use Rattle.satl_core.specs.Layer.{Agrees, Tied, most_replies, reply_pages, view, works};
 ghost use Rattle.satl_core.specs.Leaving.{is_within};
 ghost use Rattle.satl_core.specs.Refilling.{Answers, AreKept, Comes, EndsOrLoses, KeepsRest, Refills, Removes};
-ghost use Rattle.satl_core.specs.Turning.{barrier_calls, lost_replies, off_calls};
+ghost use Rattle.satl_core.specs.Turning.{barrier_calls, issue_calls, lost_replies, off_calls, poll_calls};
 
 use crate::leaving::{Scope, drop_tasks, has_outstanding};
 use crate::managing::post;
@@ -31,7 +31,7 @@ impl Satl {
     /// The link is lost, and nothing is outstanding: all tasks are answered, in order of arrival.
     pub(crate) fn lose(&mut self, replies: &mut Replies)
         requires idle { self.old.flying ≡ [] }
-        requires room { length replies.old + length self.old.tasks ≤ 65 }
+        requires room { length replies.old + length self.old.tasks ≤ most_replies }
         ensures answers { replies.new ≡ replies.old ++ lost_replies self.old.modes.d_sense self.old.tasks }
         ensures stays { self.new ≡ record self.old { down = true; tasks = []; slots = self.new.slots; free = self.new.free } }
         ensures writable { AllByRecursion IsWritable replies.old → AllByRecursion IsWritable replies.new }
@@ -56,7 +56,7 @@ impl Satl {
     )
         requires agrees { Agrees self.old (D.state drive.old) }
         requires still { MatchBool (works self.old) (Unit {0}) (self.old.flying ≡ []) }
-        requires room { length replies.old + length self.old.tasks ≤ 65 }
+        requires room { length replies.old + length self.old.tasks ≤ most_replies }
         ensures refills { Answers (λ more. Refills (view self.old (D.state drive.old)) more (view self.new (D.state drive.new)))
             replies.old replies.new }
         ensures tied { Tied self.new (D.state drive.new) }
@@ -71,14 +71,13 @@ impl Satl {
         ensures unanswered { self.old.down ≡ true → (replies.new ≡ replies.old) × (self.new ≡ self.old) }
         ensures unlost { self.new.down ≡ false → replies.new ≡ replies.old }
         ensures issues { self.new.down ≡ false → OnlyIssues self.old.flying steps.old self.new steps.new }
-        ensures steps { steps.new ≤ steps.old + 32 }
+        ensures steps { steps.new ≤ steps.old + issue_calls }
     {
         if self.down || !self.started {
             return;
         }
-        match self.queue.launch(drive, steps) {
-            Ok(()) => {}
-            Err(LinkDown) => self.lose(replies),
+        if let Err(LinkDown) = self.queue.launch(drive, steps) {
+            self.lose(replies);
         }
     }
 
@@ -93,7 +92,7 @@ impl Satl {
         requires came { (before : List Held) × Comes (D.state drive.old).capacity
             (has_queued_trim (D.state drive.old).identify) before self.old.tasks
             × MatchBool (works self.old) (IsFilled self.old.flying before) (self.old.flying ≡ []) }
-        requires room { length replies.old + length self.old.tasks ≤ 65 }
+        requires room { length replies.old + length self.old.tasks ≤ most_replies }
         ensures refills { Answers (λ more. Refills (view self.old (D.state drive.old)) more (view self.new (D.state drive.new)))
             replies.old replies.new }
         ensures tied { Tied self.new (D.state drive.new) }
@@ -107,9 +106,8 @@ impl Satl {
         if self.down || !self.started {
             return;
         }
-        match self.queue.launch_last(drive, steps) {
-            Ok(()) => {}
-            Err(LinkDown) => self.lose(replies),
+        if let Err(LinkDown) = self.queue.launch_last(drive, steps) {
+            self.lose(replies);
         }
     }
 
@@ -123,7 +121,7 @@ impl Satl {
         steps: &mut Steps<L>,
     )
         requires tied { Tied self.old (D.state drive.old) }
-        requires room { length replies.old + length self.old.tasks ≤ 65 }
+        requires room { length replies.old + length self.old.tasks ≤ most_replies }
         ensures removes { Answers (λ more. Around (MayLose (Removes (is_within scope.now)))
             (view self.old (D.state drive.old)) more (view self.new (D.state drive.new))) replies.old replies.new }
         ensures tied { Tied self.new (D.state drive.new) }
@@ -154,7 +152,7 @@ impl Satl {
     )
         requires tied { Tied self.old (D.state drive.old) }
         requires some { self.old.flying ≢ [] }
-        requires room { length replies.old + length self.old.tasks ≤ 65 }
+        requires room { length replies.old + length self.old.tasks ≤ most_replies }
         ensures removes { Answers (λ more. Around (MayLose (Removes (is_within scope.now)))
             (view self.old (D.state drive.old)) more (view self.new (D.state drive.new))) replies.old replies.new }
         ensures tied { Tied self.new (D.state drive.new) }
@@ -190,7 +188,7 @@ impl Satl {
         ensures pages { self.new.out ≡ reply_pages replies.new }
         ensures writable { AllByRecursion IsWritable replies.new }
         ensures fewer { length self.new.tasks + 1 ≤ length self.old.tasks }
-        ensures room { length replies.new + length self.new.tasks ≤ 65 }
+        ensures room { length replies.new + length self.new.tasks ≤ most_replies }
         ensures flushed { IsFlushed self.old.tasks replies.new
             → (Rose (D.state drive.old).faults (D.state drive.new).faults → ⊥)
             → AllByRecursion IsSettled (D.state drive.new).cells }
@@ -203,7 +201,7 @@ impl Satl {
         ensures polls { self.old.flying ≢ [] → self.new.down ≡ false
             → PollsOnce self.old.flying steps.old replies.new self.new.flying steps.new }
         ensures idle { self.old.flying ≡ [] → self.new.flying ≡ [] }
-        ensures queued { self.old.flying ≢ [] → steps.new ≤ steps.old + 2 }
+        ensures queued { self.old.flying ≢ [] → steps.new ≤ steps.old + poll_calls }
         ensures steps { steps.new ≤ steps.old + barrier_calls }
     {
         if self.queue.is_idle() {
@@ -233,7 +231,7 @@ impl Satl {
         ensures pages { self.new.out ≡ reply_pages replies.new }
         ensures writable { AllByRecursion IsWritable replies.new }
         ensures fewer { length self.new.tasks + 1 ≤ length self.old.tasks }
-        ensures room { length replies.new + length self.new.tasks ≤ 65 }
+        ensures room { length replies.new + length self.new.tasks ≤ most_replies }
         ensures flushed { IsFlushed self.old.tasks replies.new
             → (Rose (D.state drive.old).faults (D.state drive.new).faults → ⊥)
             → AllByRecursion IsSettled (D.state drive.new).cells }
@@ -295,11 +293,11 @@ impl Satl {
         ensures pages { self.new.out ≡ reply_pages replies.new }
         ensures writable { AllByRecursion IsWritable replies.new }
         ensures fewer { length self.new.tasks + 1 ≤ length self.old.tasks }
-        ensures room { length replies.new + length self.new.tasks ≤ 65 }
+        ensures room { length replies.new + length self.new.tasks ≤ most_replies }
         ensures unflushed { IsFlushed self.old.tasks replies.new → Rose (D.state drive.old).faults (D.state drive.new).faults }
         ensures polls { self.new.down ≡ false
             → PollsOnce self.old.flying steps.old replies.new self.new.flying steps.new }
-        ensures steps { steps.new ≤ steps.old + 2 }
+        ensures steps { steps.new ≤ steps.old + poll_calls }
     {
         let descriptor = self.modes.d_sense;
         match self.queue.settle_one(&mut self.desk, drive, steps) {

@@ -1,4 +1,4 @@
-// The layer: what it holds, how it is opened, and the pages that it lends.
+// The layer: what it holds, how it is opened, its calls, and the pages that it lends.
 ghost use Rattle.std.specs.Prelude.{◌≡◌, ◌≤◌, ◌+◌, ◌-◌, ◌<◌, ◌↔◌, ◌≢◌, ◌*◌, [], Ok, true, false, IfOk, IfErr, IfSome, IfNone, IsNone, OnOk, OnErr, OnSome, map, length};
 ghost use Rattle.std.specs.List.{AllByRecursion, AllZip};
 ghost use Rattle.satl_base.specs.declared.request.Request.{Request};
@@ -25,7 +25,7 @@ ghost use Rattle.satl_mode.specs.Changes.{AreModesOf, IsChangeOf};
 ghost use Rattle.satl_line.specs.Tasks.{total_blocks};
 ghost use Rattle.satl_base.specs.Limits.{most_held, most_tasks};
 ghost use Rattle.satl_core.specs.Flushed.{IsFlushed, IsSettled};
-ghost use Rattle.satl_core.specs.Turning.{off_calls, turn_calls};
+ghost use Rattle.satl_core.specs.Turning.{issue_calls, off_calls, poll_calls, turn_calls};
 ghost use Rattle.satl_flight.specs.Settled.{Deepens, IssuesInOrder};
 ghost use Rattle.satl_core.specs.Calling.{PollsAndIssues, ResetsFor, calls_of_first, is_first_unready};
 ghost use Rattle.satl_core.specs.Leaving.{is_within};
@@ -83,6 +83,28 @@ impl From<NoMemory> for OpenFault {
 
     fn from(_: NoMemory) -> OpenFault {
         OpenFault::NoMemory
+    }
+}
+
+impl From<LinkDown> for OpenFault {
+    ghost use Rattle.std.specs.Prelude.{◌≡◌};
+    ghost use Rattle.satl_core.specs.declared.satl.OpenFault.TheVariants as faults;
+
+    ghost from_gives = { λ _ e. e ≡ faults.LinkDown };
+
+    fn from(_: LinkDown) -> OpenFault {
+        OpenFault::LinkDown
+    }
+}
+
+impl From<IdentityFault> for OpenFault {
+    ghost use Rattle.std.specs.Prelude.{◌≡◌};
+    ghost use Rattle.satl_core.specs.declared.satl.OpenFault.TheVariants as faults;
+
+    ghost from_gives = { λ fault e. e ≡ faults.Identity fault };
+
+    fn from(fault: IdentityFault) -> OpenFault {
+        OpenFault::Identity(fault)
     }
 }
 
@@ -147,14 +169,8 @@ impl Satl {
         let Some(mut pages) = pool.take(1) else {
             unreachable!();
         };
-        match tell_identity(drive, &mut pages, steps) {
-            Ok(()) => {}
-            Err(LinkDown) => return Err(OpenFault::LinkDown),
-        }
-        let identity = match read_identity(&pages.block(0).bytes) {
-            Ok(identity) => identity,
-            Err(fault) => return Err(OpenFault::Identity(fault)),
-        };
+        tell_identity(drive, &mut pages, steps)?;
+        let identity = read_identity(&pages.block(0).bytes)?;
         pool.give(pages);
         Ok(Satl {
             identity,
@@ -360,7 +376,7 @@ impl Satl {
             → PollsAndIssues self.old steps.old replies.new self.new steps.new }
         ensures in_order { self.old.flying ≡ [] → self.new.down ≡ false
             → IssuesInOrder [] self.new.flying self.new.tasks }
-        ensures queued { self.old.flying ≢ [] → steps.new ≤ steps.old + 34 }
+        ensures queued { self.old.flying ≢ [] → steps.new ≤ steps.old + (poll_calls + issue_calls) }
         ensures unready { is_first_unready self.old.started self.old.tasks ≡ true → drive.new ≡ drive.old }
         ensures first_calls { self.old.flying ≡ [] → self.new.down ≡ false
             → steps.new ≤ steps.old + (calls_of_first self.old.started self.old.tasks + length self.new.flying) }
@@ -510,7 +526,7 @@ impl Satl {
         }
     }
 
-    /// Does what `recycle` does.
+    /// The rest of `recycle`, for pages that there are. Never inlined, so that each place that recycles stays short.
     #[inline(never)]
     fn take_back(&mut self, pages: Pages)
         requires { length pages ≤ self.old.out }

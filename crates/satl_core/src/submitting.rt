@@ -5,6 +5,7 @@ ghost use Rattle.satl_frame.specs.Output.{IsWritable};
 ghost use Rattle.satl_cdb.specs.Unmap as unmap;
 ghost use Rattle.satl_regs.specs.Trim.{IsTrimList, trim_block};
 ghost use Rattle.satl_direct.specs.Arrival.{reply_to};
+ghost use Rattle.satl_direct.specs.Senses;
 ghost use Rattle.satl_identify.specs.Refusals.{IsIdentity};
 ghost use Rattle.satl_mode.specs.SelectList.{select_fault};
 ghost use Rattle.satl_direct.specs.Tasks.{asks, data_out_kept, fault_of_block, held_blocks, needed, task_without_pages};
@@ -35,12 +36,19 @@ use satl_telling::{Data, tell};
 use satl_unit::{Attention, Attentions};
 use std::mem;
 
-/// Why a command is answered at once: GOOD, GOOD with data-in up to an allocation length, or CHECK CONDITION with its sense
-/// data.
+/// How a request is answered at once (SAM-5 5.3.1).
 #[derive(Clone, Copy, Debug, PartialEq, Eq)]
 pub enum AtOnce {
+    /// GOOD without data-in.
     Good,
-    Tell { what: Data, alloc: u32 },
+    /// GOOD with data-in.
+    Tell {
+        /// What is told.
+        what: Data,
+        /// The allocation length: the most bytes of it.
+        alloc: u32,
+    },
+    /// CHECK CONDITION with this sense data.
     Check(Sense),
 }
 
@@ -110,6 +118,13 @@ pub fn read_lengths(request: &Request)
     let _low_of_ten = request.cdb[8];
 }
 
+/// A refusal: CHECK CONDITION with its sense data (SPC-4 4.5.6).
+fn refused(why: Illegal) -> AtOnce
+    ensures { result ≡ AtOnce.Check (Senses.refusal_sense why) }
+{
+    AtOnce::Check(refusal_sense(why))
+}
+
 /// Judges a request by its operation code, its fields and its data-out: its command, which may become a task, or why it is
 /// answered at once.
 pub fn judge_code(satl: &Satl, request: &Request) -> Result<Command, AtOnce>
@@ -119,7 +134,7 @@ pub fn judge_code(satl: &Satl, request: &Request) -> Result<Command, AtOnce>
 {
     let command = match read_cdb(&request.cdb, satl.identity.trim) {
         Ok(command) => command,
-        Err(why) => return Err(AtOnce::Check(refusal_sense(why))),
+        Err(why) => return Err(refused(why)),
     };
     match judge_command(satl, request, &command) {
         None => Ok(command),
@@ -134,7 +149,7 @@ fn judge_command(satl: &Satl, request: &Request, command: &Command) -> Option<At
     ensures can { IfNone result (CanPass command.now) }
 {
     if let Some(why) = fields_fault(command) {
-        return Some(AtOnce::Check(refusal_sense(why)));
+        return Some(refused(why));
     }
     let range = range_of(command);
     if range.goes_past(satl.identity.capacity) {
@@ -149,13 +164,13 @@ fn judge_data(satl: &Satl, request: &Request, command: &Command) -> Option<AtOnc
     ensures { unless_answered result command.now ≡ data_answer satl.now request.now command.now }
 {
     if let Some(why) = length_fault(command) {
-        return Some(AtOnce::Check(refusal_sense(why)));
+        return Some(refused(why));
     }
     if u64::from(request.data_len) < needed(command) {
         return Some(AtOnce::Check(short_data()));
     }
     match data_fault(satl, request, command) {
-        Some(why) => Some(AtOnce::Check(refusal_sense(why))),
+        Some(why) => Some(refused(why)),
         None => answer_to(satl, request, command),
     }
 }
@@ -197,10 +212,7 @@ fn unmap_fault(list: &Pages, size: u16, capacity: u64) -> Option<Illegal>
     if size == 0 {
         return None;
     }
-    match read_unmap_list(list, size, capacity) {
-        Ok(_) => None,
-        Err(why) => Some(why),
-    }
+    read_unmap_list(list, size, capacity).err()
 }
 
 /// The refusal of the list of a MODE SELECT (SPC-4, MODE SELECT commands).
@@ -209,10 +221,7 @@ fn select_fault(satl: &Satl, request: &Request, length: u16, ten: bool) -> Optio
     requires long { length ≤ request.now.data_len }
     ensures { result ≡ select_fault satl.now.identity satl.now.modes request.now.body length ten }
 {
-    match read_select(&satl.identity, &satl.modes, &request.body, length, ten) {
-        Ok(_) => None,
-        Err(why) => Some(why),
-    }
+    read_select(&satl.identity, &satl.modes, &request.body, length, ten).err()
 }
 
 /// Answers a command from what the device says of itself, or lets it become a task, unless it has nothing to do: then it

@@ -4,9 +4,9 @@ ghost use Rattle.std.specs.List.{AllByRecursion};
 ghost use Rattle.satl_base.specs.Cells.{AreSound};
 ghost use Rattle.satl_direct.specs.Senses;
 ghost use Rattle.satl_base.specs.Limits.{most_moved, piece};
-ghost use Rattle.satl_core.specs.Layer.{IsTask, held_pages};
+ghost use Rattle.satl_core.specs.Layer.{IsTask, held_pages, most_replies};
 ghost use Rattle.satl_core.specs.Alone.{alone_of};
-ghost use Rattle.satl_core.specs.Calling.{calls_alone, calls_of_turn, is_unready};
+ghost use Rattle.satl_core.specs.Calling.{calls_alone, calls_of_task, is_unready};
 ghost use Rattle.satl_core.specs.Medium.{CanCarry, HasWhole, written_alone};
 ghost use Rattle.satl_base.specs.declared.modes.Modes.{Modes};
 ghost use Rattle.satl_core.specs.Turning;
@@ -30,12 +30,14 @@ use satl_sense::{Sense, sense_bytes};
 use std::mem;
 use std::sync::ledger::Ledger;
 
-/// How a task ends: with GOOD; done, and told with sense data beside its data-in, which is CHECK CONDITION as well (SAT-3
-/// 12.2); or with CHECK CONDITION and its sense data.
+/// How a task ends (SAM-5 5.3.1).
 #[derive(Clone, Copy, Debug, PartialEq, Eq)]
 pub enum Ending {
+    /// Done, with GOOD.
     Good,
+    /// Done, and told by CHECK CONDITION with this sense data beside its data-in (SAT-3 12.2).
     Informed(Sense),
+    /// Not done: CHECK CONDITION with this sense data.
     Check(Sense),
 }
 
@@ -78,7 +80,7 @@ pub fn run_task<D: Drive<L>, L: Ledger>(
     ensures unasked { down ≡ true → drive.new ≡ drive.old }
     ensures uncalled { down ≡ true → steps.new ≡ steps.old }
     ensures unready { is_unready started task.old.command ≡ true → drive.new ≡ drive.old }
-    ensures calls { steps.new ≤ steps.old + calls_of_turn started task.old.command }
+    ensures calls { steps.new ≤ steps.old + calls_of_task started task.old.command }
     ensures steps { steps.new ≤ steps.old + barrier_calls }
 {
     if down {
@@ -175,7 +177,7 @@ pub fn lose_tasks(
     requires idle { queue.old.flying ≡ [] }
     requires held { held_pages queue.old.tasks ≤ pool.old.out }
     requires few { AllByRecursion (λ h. length h.entry.body ≤ most_moved) queue.old.tasks }
-    requires room { length replies.old + length queue.old.tasks ≤ 65 }
+    requires room { length replies.old + length queue.old.tasks ≤ most_replies }
     ensures none { queue.new.tasks ≡ [] }
     ensures flying { queue.new.flying ≡ [] }
     ensures answers { replies.new ≡ replies.old ++ lost_replies descriptor queue.old.tasks }

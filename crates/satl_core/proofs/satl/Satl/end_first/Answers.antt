@@ -8,7 +8,7 @@ use Rattle.satl_direct.specs.Tasks.{task_of}
 use Rattle.satl_direct.specs.Valid.{AreOwn}
 use Rattle.satl_direct.proofs.Naming.{none_of_each, own_first}
 use Rattle.satl_core.specs.declared.turning.Ending.TheVariants as endings
-use Rattle.satl_core.specs.Calling.{calls_of_first, calls_of_turn, is_first_unready, is_unready}
+use Rattle.satl_core.specs.Calling.{calls_of_first, calls_of_task, is_first_unready, is_unready}
 use Rattle.satl_core.specs.Flushed.{IsFlushed}
 use Rattle.satl_core.specs.Layer.{IsKept, IsTask, Layer, Tied, view}
 use Rattle.satl_core.specs.Refilling.{EndsOne}
@@ -46,10 +46,10 @@ is_refused g c unready =
     let i = c.self.inside in
     sym (first_unready i.started i.queue.tasks c.remove.new.self.tasks c.entry_mut-task.result.now (is_first g c)) ∙ subst (λ (l : Layer). is_first_unready l.started l.tasks ≡ true) (sym c.self.view_is) unready
 
-calls_are : (g : given.Over) (c : After-entry_mut-task g) → calls_of_turn c.self.inside.started c.entry_mut-task.result.now.command ≡ calls_of_first c.args.self.now.started c.args.self.now.tasks
+calls_are : (g : given.Over) (c : After-entry_mut-task g) → calls_of_task c.self.inside.started c.entry_mut-task.result.now.command ≡ calls_of_first c.args.self.now.started c.args.self.now.tasks
 calls_are g c =
     let i = c.self.inside in
-    subst (λ (l : Layer). calls_of_turn i.started c.entry_mut-task.result.now.command ≡ calls_of_first l.started l.tasks) c.self.view_is
+    subst (λ (l : Layer). calls_of_task i.started c.entry_mut-task.result.now.command ≡ calls_of_first l.started l.tasks) c.self.view_is
     (sym (first_turn i.started i.queue.tasks c.remove.new.self.tasks c.entry_mut-task.result.now (is_first g c)))
 
 pub run_task-requires-clause-free : goal.run_task-requires-clause-free

@@ -10,23 +10,23 @@ use Rattle.satl_core.proofs.satl.Satl.refill.Goals as goal
 pub returns-then-self-clause-refills : goal.returns-then-self-clause-refills
 returns-then-self-clause-refills g c = no_answers _ _
 
-pub returns-in-Ok-clause-refills : goal.returns-in-Ok-clause-refills
-returns-in-Ok-clause-refills g c =
+pub returns-in_default-clause-refills : goal.returns-in_default-clause-refills
+returns-in_default-clause-refills g c =
     let i = c.self.inside in
     launched_answers (layer_of i.identity i.modes i.started i.down i.attentions i.queue i.pool) _ (layer_of i.identity i.modes i.started i.down i.attentions c.launch.new.self i.pool) _ _ c.self.view_is (works_by i.down i.started c.if-self.false c.if-not-self.false) c.requires.agrees
-    (queue_changed i.identity i.modes i.started i.down i.attentions i.queue c.launch.new.self i.pool c.in-Ok.ensures.same) c.in-Ok.ensures.ok c.args.replies.now
+    (queue_changed i.identity i.modes i.started i.down i.attentions i.queue c.launch.new.self i.pool c.in_default.ensures.same) c.in_default.ensures.ok c.args.replies.now
 
-pub returns-in-Ok-clause-tied : goal.returns-in-Ok-clause-tied
-returns-in-Ok-clause-tied g c =
+pub returns-in_default-clause-tied : goal.returns-in_default-clause-tied
+returns-in_default-clause-tied g c =
     let i = c.self.inside in
     launched_tied (layer_of i.identity i.modes i.started i.down i.attentions i.queue i.pool) _ (layer_of i.identity i.modes i.started i.down i.attentions c.launch.new.self i.pool) _ _ c.self.view_is (works_by i.down i.started c.if-self.false c.if-not-self.false) c.requires.agrees
-    (queue_changed i.identity i.modes i.started i.down i.attentions i.queue c.launch.new.self i.pool c.in-Ok.ensures.same) c.in-Ok.ensures.ok c.in-Ok.ensures.filled c.in-Ok.ensures.fit
+    (queue_changed i.identity i.modes i.started i.down i.attentions i.queue c.launch.new.self i.pool c.in_default.ensures.same) c.in_default.ensures.ok c.in_default.ensures.filled c.in_default.ensures.fit
 
-pub returns-in-Ok-clause-settled : goal.returns-in-Ok-clause-settled
-returns-in-Ok-clause-settled g c = λ all quiet.
+pub returns-in_default-clause-settled : goal.returns-in_default-clause-settled
+returns-in_default-clause-settled g c = λ all quiet.
     let i = c.self.inside in
     launched_settled (layer_of i.identity i.modes i.started i.down i.attentions i.queue i.pool) _ (layer_of i.identity i.modes i.started i.down i.attentions c.launch.new.self i.pool) _ _ c.self.view_is (works_by i.down i.started c.if-self.false c.if-not-self.false) c.requires.agrees
-    (queue_changed i.identity i.modes i.started i.down i.attentions i.queue c.launch.new.self i.pool c.in-Ok.ensures.same) c.in-Ok.ensures.ok all
+    (queue_changed i.identity i.modes i.started i.down i.attentions i.queue c.launch.new.self i.pool c.in_default.ensures.same) c.in_default.ensures.ok all
 
 pub returns-in-Err-clause-refills : goal.returns-in-Err-clause-refills
 returns-in-Err-clause-refills g c =
@@ -53,11 +53,11 @@ returns-in-Err-clause-rest g c =
 pub returns-then-self-clause-issues : goal.returns-then-self-clause-issues
 returns-then-self-clause-issues g c = λ up. record { cost = refl; in_order = in_order_none _ _ }
 
-pub returns-in-Ok-clause-issues : goal.returns-in-Ok-clause-issues
-returns-in-Ok-clause-issues g c = λ up.
+pub returns-in_default-clause-issues : goal.returns-in_default-clause-issues
+returns-in_default-clause-issues g c = λ up.
     let i = c.self.inside in
     subst (λ (l : Layer). OnlyIssues l.flying c.args.steps.now (layer_of i.identity i.modes i.started i.down i.attentions c.launch.new.self i.pool) c.launch.new.steps) c.self.view_is
-    (record { cost = c.in-Ok.ensures.cost; in_order = c.in-Ok.ensures.in_order })
+    (record { cost = c.in_default.ensures.cost; in_order = c.in_default.ensures.in_order })
 
 pub returns-in-Err-clause-issues : goal.returns-in-Err-clause-issues
 returns-in-Err-clause-issues g c = λ up. let no : true ≡ false = sym (ap (λ (l : Layer). l.down) c.lose.ensures.stays) ∙ up in absurd cc

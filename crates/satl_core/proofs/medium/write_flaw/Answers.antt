@@ -1,0 +1,7 @@
+use Rattle.std.proofs.Common.{ap, ◌∙◌, true}
+use Rattle.satl_core.specs.declared.turning.Ending.TheVariants as endings
+use Rattle.satl_core.proofs.MediumLemmas.{flaw_sense}
+use Rattle.satl_core.proofs.medium.write_flaw.Goals as goal
+
+pub returns : goal.returns
+returns c = ap endings.Check (c.error_sense_at.ensures ∙ flaw_sense true c.args.lba)
