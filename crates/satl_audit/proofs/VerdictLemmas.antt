@@ -4,7 +4,6 @@ use Rattle.std.proofs.lemmas.Bool.{eqb-false, eqb-true, both_ways}
 use Rattle.std.specs.Prelude.{◌<◌, ◌≤◌, ◌==◌, is_some, replicate, slice_index_or}
 use Rattle.std.proofs.lemmas.List.{append-nil}
 use Rattle.satl_base.specs.Blocks.{zero_block}
-use Rattle.satl_base.specs.Cells.{Pair}
 use Rattle.satl_identify.specs.declared.identity.Identity.{Identity}
 use Rattle.satl_identify.specs.Refusals.{IsIdentity}
 use Rattle.satl_frame.specs.declared.frames.Frame.{Frame}
