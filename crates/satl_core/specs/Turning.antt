@@ -37,6 +37,7 @@ use Rattle.satl_core.specs.declared.alone.Alone.{Alone}
 use Rattle.satl_core.specs.declared.alone.Alone.TheVariants as alones
 use Rattle.satl_core.specs.declared.managing.Posting.{Posting}
 use Rattle.satl_core.specs.declared.managing.Posting.TheVariants.{ModesChanged}
+use Rattle.satl_core.specs.declared.turning.Circumstances.{Circumstances}
 use Rattle.satl_core.specs.declared.turning.Ending.{Ending}
 use Rattle.satl_core.specs.declared.turning.Ending.TheVariants as endings
 
@@ -120,13 +121,6 @@ pub record TaskOnDrive : Type 0 where
 -- the task on the drive (profile)
 abbrev pub task_on : Entry → DriveState → TaskOnDrive
 task_on task drive = record { task = task; drive = drive }
-
--- what a task finds whose turn comes: the mark of a lost link, whether the unit is started, and the mode values that the task
--- wants (profile)
-pub record Circumstances : Type 0 where
-  pub down : Bool
-  pub started : Bool
-  pub wanted : Modes
 
 -- a task ends with this sense, and the drive is not asked (profile)
 pub record IsUnasked (sense : Sense) (old : DriveState) (ending : Ending) (new : DriveState) : Type 0 where

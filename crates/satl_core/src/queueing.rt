@@ -21,7 +21,7 @@ use crate::managing::post;
 use crate::satl::Satl;
 use crate::selecting::{change_posting, modes_after, wanted_by};
 use crate::turning::{
-    end_task, ending_by, is_read, link_lost, lose_tasks, run_task, started_after,
+    Circumstances, end_task, ending_by, is_read, link_lost, lose_tasks, run_task, started_after,
 };
 use satl_base::{Replies, Steps};
 use satl_drive::{Drive, LinkDown};
@@ -249,16 +249,12 @@ impl Satl {
         let nexus = task.nexus;
         let descriptor = self.modes.d_sense;
         let wanted = wanted_by(&self.modes, &task.change);
-        match run_task(
-            self.down,
-            self.started,
-            &self.modes,
-            &wanted,
-            task,
-            &mut self.pool,
-            drive,
-            steps,
-        ) {
+        let found = Circumstances {
+            down: self.down,
+            started: self.started,
+            wanted,
+        };
+        match run_task(&found, &self.modes, task, &mut self.pool, drive, steps) {
             Ok(ending) => {
                 let modes = modes_after(&command, &ending, &self.modes, &wanted);
                 let posting = change_posting(&command, &self.modes, &modes, nexus);

@@ -41,15 +41,23 @@ pub enum Ending {
     Check(Sense),
 }
 
+/// What a task finds whose turn comes.
+#[derive(Clone, Copy, Debug, PartialEq, Eq)]
+pub struct Circumstances {
+    /// The mark of a lost link.
+    pub down: bool,
+    /// Whether the unit is started.
+    pub started: bool,
+    /// The mode values that the task wants.
+    pub wanted: Modes,
+}
+
 /// How the task ends whose turn it is and whose command is not outstanding: the first that holds decides, a lost link, a unit
 /// that is stopped where the command needs it started, as a READ and a WRITE do, and the drive. `modes` are the mode values
-/// that there are, as the drive is set, and `wanted` those that the task wants. `LinkDown`: the link was lost while the task
-/// was carried out.
+/// that there are, as the drive is set. `LinkDown`: the link was lost while the task was carried out.
 pub fn run_task<D: Drive<L>, L: Ledger>(
-    down: bool,
-    started: bool,
+    found: &Circumstances,
     modes: &Modes,
-    wanted: &Modes,
     task: &mut Entry,
     pool: &mut Pool,
     drive: &mut D,
@@ -57,42 +65,43 @@ pub fn run_task<D: Drive<L>, L: Ledger>(
 ) -> Result<Ending, LinkDown>
     requires free { IsFree (D.state drive.old) }
     requires task { IsTask (D.state drive.old).capacity task.old.command task.old.blocks }
-    requires alone { down ≡ false → started ≡ true → IsSome (alone_of task.old.command) }
+    requires alone { found.now.down ≡ false → found.now.started ≡ true → IsSome (alone_of task.old.command) }
     requires sound { AreSound (D.state drive.old).cells }
-    requires mark { down ≡ (D.state drive.old).down }
-    requires set { down ≡ false → IsSetBy modes.now (D.state drive.old) }
-    requires may { CanSet modes.now wanted.now (D.state drive.old) }
+    requires mark { found.now.down ≡ (D.state drive.old).down }
+    requires set { found.now.down ≡ false → IsSetBy modes.now (D.state drive.old) }
+    requires may { CanSet modes.now found.now.wanted (D.state drive.old) }
     requires carry { IfSome (alone_of task.old.command) (λ alone. CanCarry alone task.old (D.state drive.old)) }
     requires room { piece ≤ pool.old.free }
     ensures stays { Stays (D.state drive.old) (D.state drive.new) }
-    ensures cache { IfOk result (λ ending. down ≡ false
-        → (D.state drive.new).cache ≡ (modes_after task.old.command ending modes.now wanted.now).wce) }
-    ensures look { IfOk result (λ ending. down ≡ false
-        → (D.state drive.new).look ≡ not (modes_after task.old.command ending modes.now wanted.now).dra) }
-    ensures up { OnOk result ((D.state drive.new).down ≡ down) }
+    ensures cache { IfOk result (λ ending. found.now.down ≡ false
+        → (D.state drive.new).cache ≡ (modes_after task.old.command ending modes.now found.now.wanted).wce) }
+    ensures look { IfOk result (λ ending. found.now.down ≡ false
+        → (D.state drive.new).look ≡ not (modes_after task.old.command ending modes.now found.now.wanted).dra) }
+    ensures up { OnOk result ((D.state drive.new).down ≡ found.now.down) }
     ensures faults { OnOk result ((D.state drive.new).faults ≡ (D.state drive.old).faults) }
-    ensures ends { IfOk result (λ ending. TaskEnds (record { down = down; started = started; wanted = wanted.now }) ending
+    ensures ends { IfOk result (λ ending. TaskEnds found.now ending
         (task_on task.old (D.state drive.old)) (task_on task.new (D.state drive.new))) }
-    ensures lost { OnErr result (IsLostInTask down started task.old (D.state drive.old) (D.state drive.new)) }
+    ensures lost { OnErr result (IsLostInTask found.now.down found.now.started task.old (D.state drive.old)
+        (D.state drive.new)) }
     ensures task { task.new ≡ record task.old { body = task.new.body } }
     ensures size { length task.new.body ≡ length task.old.body }
     ensures pool { pool.new ≡ pool.old }
-    ensures unasked { down ≡ true → drive.new ≡ drive.old }
-    ensures uncalled { down ≡ true → steps.new ≡ steps.old }
-    ensures unready { is_unready started task.old.command ≡ true → drive.new ≡ drive.old }
-    ensures calls { steps.new ≤ steps.old + calls_of_task started task.old.command }
+    ensures unasked { found.now.down ≡ true → drive.new ≡ drive.old }
+    ensures uncalled { found.now.down ≡ true → steps.new ≡ steps.old }
+    ensures unready { is_unready found.now.started task.old.command ≡ true → drive.new ≡ drive.old }
+    ensures calls { steps.new ≤ steps.old + calls_of_task found.now.started task.old.command }
     ensures steps { steps.new ≤ steps.old + barrier_calls }
 {
-    if down {
+    if found.down {
         return Ok(link_lost());
     }
     let Some(alone) = Alone::of(&task.command) else {
         return Ok(not_ready());
     };
-    if alone.is_not_ready(started) {
+    if alone.is_not_ready(found.started) {
         return Ok(not_ready());
     }
-    carry_out(alone, modes, wanted, task, pool, drive, steps)
+    carry_out(alone, modes, &found.wanted, task, pool, drive, steps)
 }
 
 /// LOGICAL UNIT NOT READY, INITIALIZING COMMAND REQUIRED (SPC-4 4.5.6).

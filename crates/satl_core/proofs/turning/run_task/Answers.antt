@@ -13,8 +13,8 @@ returns-clause-ends g c =
     let task = c.args.task.now in
     let is = sym c.of.ensures ∙ c.in-Some.is in
     IfOk-weaker c.carry_out.result _ _
-    (λ ending carried. ends_carried c.args.down c.args.started c.args.wanted.now c.in-Some.alone ending (task_on task (g.D.Drive.state c.args.drive.now)) (task_on c.carry_out.new.task (g.D.Drive.state c.carry_out.new.drive)) c.if-down.false
-    (stops_alike task.command c.in-Some.alone c.args.started is ∙ (sym c.is_not_ready.ensures ∙ c.if-is_not_ready.false)) is carried)
+    (λ ending carried. ends_carried c.args.found.now.down c.args.found.now.started c.args.found.now.wanted c.in-Some.alone ending (task_on task (g.D.Drive.state c.args.drive.now)) (task_on c.carry_out.new.task (g.D.Drive.state c.carry_out.new.drive)) c.if-found.false
+    (stops_alike task.command c.in-Some.alone c.args.found.now.started is ∙ (sym c.is_not_ready.ensures ∙ c.if-is_not_ready.false)) is carried)
     c.carry_out.ensures.ends
 
 pub returns-clause-lost : goal.returns-clause-lost
@@ -24,8 +24,8 @@ returns-clause-lost g c =
     let is = sym c.of.ensures ∙ c.in-Some.is in
     on_both_err c.carry_out.result _ _ _
     (λ lost whole. record {
-      was_up = c.if-down.false;
-      ready = stops_alike task.command c.in-Some.alone c.args.started is ∙ (sym c.is_not_ready.ensures ∙ c.if-is_not_ready.false);
+      was_up = c.if-found.false;
+      ready = stops_alike task.command c.in-Some.alone c.args.found.now.started is ∙ (sym c.is_not_ready.ensures ∙ c.if-is_not_ready.false);
       pairs = written_alone c.in-Some.alone task d;
       written = subst (λ o. IsSomeAnd o (λ alone. HasWhole alone task × (written_alone c.in-Some.alone task d ≡ written_alone alone task d))) (sym is) (whole, refl);
       lost = lost;
@@ -35,12 +35,12 @@ returns-clause-lost g c =
 pub returns-clause-unready : goal.returns-clause-unready
 returns-clause-unready g c = λ unready.
     let is = sym c.of.ensures ∙ c.in-Some.is in
-    let no : true ≡ false = sym unready ∙ (stops_alike c.args.task.now.command c.in-Some.alone c.args.started is ∙ (sym c.is_not_ready.ensures ∙ c.if-is_not_ready.false)) in
+    let no : true ≡ false = sym unready ∙ (stops_alike c.args.task.now.command c.in-Some.alone c.args.found.now.started is ∙ (sym c.is_not_ready.ensures ∙ c.if-is_not_ready.false)) in
     absurd cc
 
 pub returns-clause-calls : goal.returns-clause-calls
 returns-clause-calls g c =
     let task = c.args.task.now in
     let is = sym c.of.ensures ∙ c.in-Some.is in
-    let ready = stops_alike task.command c.in-Some.alone c.args.started is ∙ (sym c.is_not_ready.ensures ∙ c.if-is_not_ready.false) in
-    subst (λ n. c.carry_out.new.steps ≤ c.args.steps.now + n) (sym (alone_turn c.args.started task.command c.in-Some.alone ready is)) c.carry_out.ensures.calls
+    let ready = stops_alike task.command c.in-Some.alone c.args.found.now.started is ∙ (sym c.is_not_ready.ensures ∙ c.if-is_not_ready.false) in
+    subst (λ n. c.carry_out.new.steps ≤ c.args.steps.now + n) (sym (alone_turn c.args.found.now.started task.command c.in-Some.alone ready is)) c.carry_out.ensures.calls
