@@ -5,15 +5,15 @@ ghost use Rattle.satl_disk.specs.Disk.{state_of};
 ghost use Rattle.satl_barrier.specs.Leaving.{IsFree};
 
 use crate::frames::{END, FLUSH, TURN, command, command_with, input, read, request, unmap};
+use crate::replaying::{changed_drive, fresh_drive};
 use crate::watched::{Handed, WatchedDrive, served};
+use satl_base::NoMemory;
 use satl_disk::ModelDrive;
 use satl_drive::Registers;
 use satl_io::{MemorySink, MemorySource};
 use satl_serve::Form;
 use std::alloc::{AllocError, Global};
-use std::marker::Brand;
 use std::process::Abort;
-use std::sync::ledger::Blank;
 use std::test::Fail;
 
 /// COMMAND (ACS-3 section 7).
@@ -86,11 +86,14 @@ fn queued(command: u8, lba: u64, sectors: u16, fua: bool) -> Handed {
     })
 }
 
+fn is_queued(code: u8) -> bool {
+    code == READ_QUEUED || code == WRITE_QUEUED || code == SEND_QUEUED
+}
+
 /// With tag 0, which stands in COUNT(7:3), where the command is queued: which one it has is the layer's choice.
 fn untagged(handed: &Handed) -> Handed {
     match *handed {
-        Handed::Command(registers)
-            if [READ_QUEUED, WRITE_QUEUED, SEND_QUEUED].contains(&registers.command) => {
+        Handed::Command(registers) if is_queued(registers.command) => {
             Handed::Command(Registers {
                 count: registers.count & 0xFF07,
                 ..registers
@@ -98,6 +101,36 @@ fn untagged(handed: &Handed) -> Handed {
         }
         other => other,
     }
+}
+
+/// Whether serving these frames, behind the magic, ends well on this drive.
+fn is_served(alloc: Global, frames: &[u8], drive: &mut WatchedDrive) -> Result<bool, NoMemory>
+    requires { IsFree (state_of drive.old) }
+{
+    let mut script = input(alloc)?;
+    script.extend_from_slice(frames)?;
+    script.extend_from_slice(&END)?;
+    let mut source = MemorySource::new(script, 65536, Vec::new(alloc));
+    let mut sink = MemorySink::new(alloc, 131072, 65536, Vec::new(alloc))?;
+    let end = served(alloc, Form::Frames, &mut source, &mut sink, drive);
+    Ok(end.is_ok())
+}
+
+/// What a drive was handed, each with tag 0.
+fn all_untagged(alloc: Global, handed: &[Handed]) -> Result<Vec<Handed>, AllocError> {
+    let mut all = Vec::new(alloc);
+    for one in handed {
+        all.push(untagged(one))?;
+    }
+    Ok(all)
+}
+
+/// IDENTIFY DEVICE, and then this.
+fn behind_identify(alloc: Global, wanted: &[Handed]) -> Result<Vec<Handed>, AllocError> {
+    let mut all = Vec::new(alloc);
+    all.push(plain(IDENTIFY_DEVICE))?;
+    all.extend_from_slice(wanted)?;
+    Ok(all)
 }
 
 /// As the layer serves these frames, behind the magic, it hands the drive IDENTIFY DEVICE and then this.
@@ -110,35 +143,17 @@ fn expect_on(
 ) -> Result<(), Fail>
     requires { IsFree (state_of drive) }
 {
-    let mut script = input(alloc)?;
-    script.extend_from_slice(frames)?;
-    script.extend_from_slice(&END)?;
-    let mut source = MemorySource::new(script, 65536, Vec::new(alloc));
-    let mut sink = MemorySink::new(alloc, 131072, 65536, Vec::new(alloc))?;
     let mut drive = WatchedDrive::new(drive);
-    let end = served::<Brand>(
-        alloc,
-        Form::Frames,
-        &mut source,
-        &mut sink,
-        &mut drive,
-        Blank::new(1),
-    );
-    assert!(rt; end.is_ok());
-    let mut handed = Vec::new(alloc);
-    for one in drive.handed() {
-        handed.push(untagged(one))?;
-    }
-    let mut expected = Vec::new(alloc);
-    expected.push(plain(IDENTIFY_DEVICE))?;
-    expected.extend_from_slice(wanted)?;
+    assert!(rt; is_served(alloc, frames, &mut drive)?);
+    let handed = all_untagged(alloc, drive.handed())?;
+    let expected = behind_identify(alloc, wanted)?;
     assert_eq!(rt; handed.as_slice(), expected.as_slice());
     Ok(())
 }
 
 /// The same on a drive of 8,192 sectors.
 fn expect(rt: &impl Abort, alloc: Global, frames: &[u8], wanted: &[Handed]) -> Result<(), Fail> {
-    expect_on(rt, alloc, ModelDrive::new(alloc, 8192)?, frames, wanted)
+    expect_on(rt, alloc, fresh_drive(alloc, 8192)?, frames, wanted)
 }
 
 /// The same, where one command is all that is served.
@@ -302,9 +317,7 @@ fn blocks_are_trimmed_by_one_command(rt: HostRuntime) -> Result<(), Fail> {
     unmap(&mut frames, 1, 8, 100)?;
     expect(&rt, alloc, &frames, &[queued(SEND_QUEUED, 0, 1, false)])?;
     // Word 77 says whether a drive queues trims.
-    let mut drive = ModelDrive::new(alloc, 8192)?;
-    drive.set_identify_word(77, 0);
-    expect_on(&rt, alloc, drive, &frames, &unqueued)
+    expect_on(&rt, alloc, changed_drive(alloc, 77, 0)?, &frames, &unqueued)
 }
 
 /// A READ(10) and a WRITE(10) of two blocks, each without FUA and with it (byte 1, bit 3).

@@ -4,7 +4,7 @@ ghost use Rattle.std.specs.List.{AllByRecursion};
 ghost use Rattle.satl_disk.specs.Disk.{state_of};
 ghost use Rattle.satl_barrier.specs.Leaving.{IsFree};
 
-use crate::replaying::{pieces, run_on};
+use crate::replaying::{fresh_drive, pieces, run_on};
 use satl_base::{NoMemory, Which};
 use satl_disk::ModelDrive;
 use satl_drive::Bench;
@@ -40,18 +40,11 @@ const FLAW_TOLD: &[u8] = b"\x84\0\0\0\x01\x01\
     \xf0\0\x03\0\0\0\0\x0a\0\0\0\0\x11\0\0\0\0\0\
     \x85\0\0\0\0";
 
-/// A fresh drive.
-fn fresh(alloc: Global) -> Result<ModelDrive, NoMemory>
-    ensures free { IfOk result (λ d. IsFree (state_of d)) }
-{
-    ModelDrive::new(alloc, 8192)
-}
-
 /// A drive whose block at address 0 cannot be read.
 fn flawed(alloc: Global) -> Result<ModelDrive, NoMemory>
     ensures free { IfOk result (λ d. IsFree (state_of d)) }
 {
-    let mut drive = fresh(alloc)?;
+    let mut drive = fresh_drive(alloc, 8192)?;
     Bench::<Brand>::strike(&mut drive, Which::Read, 0);
     Ok(drive)
 }
@@ -62,7 +55,7 @@ fn modelled(alloc: Global) -> Result<Vec<ModelDrive>, NoMemory>
     ensures free { IfOk result (λ drives. AllByRecursion IsFree (map state_of drives.items)) }
 {
     let mut drives = Vec::new(alloc);
-    drives.push(fresh(alloc)?)?;
+    drives.push(fresh_drive(alloc, 8192)?)?;
     drives.push(flawed(alloc)?)?;
     Ok(drives)
 }

@@ -131,6 +131,46 @@ fn alone(alloc: Global, drive: ModelDrive) -> Result<Vec<ModelDrive>, NoMemory>
     Ok(drives)
 }
 
+/// A new drive of so many sectors.
+pub fn fresh_drive(alloc: Global, sectors: u32) -> Result<ModelDrive, NoMemory>
+    requires some { 1 ≤ sectors }
+    requires few { sectors ≤ 65536 }
+    ensures free { IfOk result (λ drive. IsFree (state_of drive)) }
+{
+    let drive = ModelDrive::new(alloc, sectors)?;
+    Ok(drive)
+}
+
+/// A drive of 8,192 sectors with this value in this word of its IDENTIFY DEVICE data.
+pub fn changed_drive(alloc: Global, word: u8, value: u16) -> Result<ModelDrive, NoMemory>
+    requires { is_in word fitting_words ≡ false }
+    ensures free { IfOk result (λ drive. IsFree (state_of drive)) }
+{
+    let mut drive = ModelDrive::new(alloc, 8192)?;
+    drive.set_identify_word(word, value);
+    Ok(drive)
+}
+
+/// A drive of 8,192 sectors whose trims are not queued, with this value in this word besides.
+fn changed_unqueued_drive(alloc: Global, word: u8, value: u16) -> Result<ModelDrive, NoMemory>
+    requires { is_in word unqueued_words ≡ false }
+    ensures free { IfOk result (λ drive. IsFree (state_of drive)) }
+{
+    let mut drive = ModelDrive::new(alloc, 8192)?;
+    drive.set_identify_word(77, 0);
+    drive.set_identify_word(word, value);
+    Ok(drive)
+}
+
+/// A drive of 64 sectors whose link is lost at the call behind so many.
+fn drive_until_lost(alloc: Global, after: u32) -> Result<ModelDrive, NoMemory>
+    ensures free { IfOk result (λ drive. IsFree (state_of drive)) }
+{
+    let mut drive = fresh_drive(alloc, 64)?;
+    drive.lose_link_after(after);
+    Ok(drive)
+}
+
 /// How the program ends with these words behind its name, over a drive of 8,192 sectors, and what it writes.
 pub fn run(
     alloc: Global,
@@ -138,7 +178,7 @@ pub fn run(
     input: Vec<u8>,
     streams: Streams,
 ) -> Result<(Status, Vec<u8>), NoMemory> {
-    let mut drives = alone(alloc, ModelDrive::new(alloc, 8192)?)?;
+    let mut drives = alone(alloc, fresh_drive(alloc, 8192)?)?;
     run_on(alloc, given, input, streams, &mut drives)
 }
 
@@ -163,9 +203,7 @@ pub fn replay_changed(
 ) -> Result<(Status, Vec<u8>), NoMemory>
     requires { is_in word fitting_words ≡ false }
 {
-    let mut drive = ModelDrive::new(alloc, 8192)?;
-    drive.set_identify_word(word, value);
-    replay_on(alloc, drive, source)
+    replay_on(alloc, changed_drive(alloc, word, value)?, source)
 }
 
 /// The same on a drive whose trims are not queued, with this value in this word besides.
@@ -177,10 +215,7 @@ pub fn replay_changed_unqueued(
 ) -> Result<(Status, Vec<u8>), NoMemory>
     requires { is_in word unqueued_words ≡ false }
 {
-    let mut drive = ModelDrive::new(alloc, 8192)?;
-    drive.set_identify_word(77, 0);
-    drive.set_identify_word(word, value);
-    replay_on(alloc, drive, source)
+    replay_on(alloc, changed_unqueued_drive(alloc, word, value)?, source)
 }
 
 /// What a replay of an input writes on a drive whose trims are not queued.
@@ -197,15 +232,8 @@ pub fn run_until_lost(
     input: Vec<u8>,
     after: u32,
 ) -> Result<(Status, Vec<u8>), NoMemory> {
-    let mut drive = ModelDrive::new(alloc, 64)?;
-    drive.lose_link_after(after);
-    run_on(
-        alloc,
-        given,
-        input,
-        pieces(65536),
-        &mut alone(alloc, drive)?,
-    )
+    let mut drives = alone(alloc, drive_until_lost(alloc, after)?)?;
+    run_on(alloc, given, input, pieces(65536), &mut drives)
 }
 
 /// A replay of an input ends and writes so, however its bytes are cut.

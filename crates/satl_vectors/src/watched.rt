@@ -12,7 +12,7 @@ use satl_pages::Dma;
 use satl_serve::{Form, ServeFault, serve};
 use satl_text::Summary;
 use std::alloc::Global;
-use std::marker::Model;
+use std::marker::{Brand, Model};
 use std::sync::ledger::{Blank, Ledger};
 
 /// What a drive was handed: a command, queued or not, by its registers, or a soft reset.
@@ -51,13 +51,11 @@ impl WatchedDrive {
     pub fn handed(&self) -> &[Handed] {
         self.handed.as_slice()
     }
+}
 
-    fn keep(&mut self, handed: Handed)
-        ensures { self.new ≡ self.old }
-    {
-        if !self.handed.is_full() {
-            self.handed.push(handed);
-        }
+fn keep(kept: &mut ArrayVec<Handed, 32>, handed: Handed) {
+    if !kept.is_full() {
+        kept.push(handed);
     }
 }
 
@@ -70,12 +68,12 @@ impl<L: Ledger> Drive<L> for WatchedDrive {
         pages: &mut Pages,
         steps: &mut Steps<L>,
     ) -> Result<Taskfile, LinkDown> {
-        self.keep(Handed::Command(*regs));
+        keep(&mut self.handed, Handed::Command(*regs));
         self.drive.run(regs, pages, steps)
     }
 
     fn issue(&mut self, regs: &Registers, dma: &Dma, steps: &mut Steps<L>) -> Result<(), LinkDown> {
-        self.keep(Handed::Command(*regs));
+        keep(&mut self.handed, Handed::Command(*regs));
         self.drive.issue(regs, dma, steps)
     }
 
@@ -84,7 +82,7 @@ impl<L: Ledger> Drive<L> for WatchedDrive {
     }
 
     fn soft_reset(&mut self, dma: &Dma, steps: &mut Steps<L>) -> Result<(), LinkDown> {
-        self.keep(Handed::Reset);
+        keep(&mut self.handed, Handed::Reset);
         self.drive.soft_reset(dma, steps)
     }
 }
@@ -116,7 +114,7 @@ impl<L: Ledger> Bench<L> for WatchedDrive {
 }
 
 /// How serving an input over the drive ends, answered in this form; its calls are counted on a blank page of a ledger.
-pub fn served<L: Ledger>(
+fn counted<L: Ledger>(
     alloc: Global,
     form: Form,
     source: &mut MemorySource,
@@ -131,4 +129,17 @@ pub fn served<L: Ledger>(
 {
     let mut steps = Steps::<L>::new(blank);
     serve(alloc, form, source, sink, drive, &mut steps)
+}
+
+/// How serving an input over the drive ends, answered in this form.
+pub fn served(
+    alloc: Global,
+    form: Form,
+    source: &mut MemorySource,
+    sink: &mut MemorySink,
+    drive: &mut WatchedDrive,
+) -> Result<Summary, ServeFault>
+    requires { IsFree (state_of drive.old) }
+{
+    counted::<Brand>(alloc, form, source, sink, drive, Blank::new(1))
 }
