@@ -1,0 +1,10 @@
+pub mod Alike
+pub mod Events
+pub mod Held
+pub mod LostRuns
+pub mod Plainly
+pub mod Putting
+pub mod Reading
+pub mod Requested
+pub mod Runs
+pub mod Steps
