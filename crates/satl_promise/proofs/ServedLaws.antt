@@ -3,29 +3,34 @@ use Rattle.std.proofs.Common.{◌≡◌, ◌⊎◌, ◌∙◌, inl, inr, refl, a
 use Rattle.std.specs.List.{AllByRecursion}
 use Rattle.satl_base.specs.Cells.{Cell}
 use Rattle.satl_base.specs.declared.block.Block.{Block}
+use Rattle.satl_base.specs.declared.request.Request.{Request}
 use Rattle.satl_base.specs.Losses.{Loses}
 use Rattle.satl_base.specs.Lists.{IsIn, how_many}
-use Rattle.satl_base.proofs.ListsLemmas.{leaves_in}
+use Rattle.satl_base.proofs.ListsLemmas.{how_many-push, in_either, in_left, leaves_in}
 use Rattle.satl_base.proofs.LossesLemmas.{loses-nows}
 use Rattle.satl_io.specs.Causes.{Rose, RoseBy}
 use Rattle.satl_frame.specs.declared.frames.Frame.{Frame}
 use Rattle.satl_frame.specs.declared.frames.Frame.TheVariants as frames
 use Rattle.satl_frame.specs.Output.{Answer}
 use Rattle.satl_direct.specs.Device.{Device, is_called}
-use Rattle.satl_direct.specs.Run.{RunDeep}
+use Rattle.satl_direct.specs.Run.{CutTurns, RunDeep}
 use Rattle.satl_direct.specs.Valid.{IsValid}
 use Rattle.satl_laws.specs.ArrivalOrder.{IsFresh, is_plain}
+use Rattle.satl_laws.specs.CutShort.{WereDone}
+use Rattle.satl_laws.specs.CutShort.WereDone.{all_done, last_cut}
+use Rattle.satl_laws.specs.OnceEach.{asks_by}
 use Rattle.satl_laws.proofs.Counts.{run_counts}
+use Rattle.satl_laws.proofs.CutShort.{cut_short_is_a_run}
 use Rattle.satl_laws.proofs.Runs.{split}
 use Rattle.satl_renaming.specs.UsedAgain.{IsInOrderByPlace, names_are_free, was_done_at}
 use Rattle.satl_renaming.proofs.LawsBack.{arrival_order_used_again, order_under_errors_used_again}
 use Rattle.satl_renaming.proofs.OneReplyBack.{answered_is_free, one_reply_used_again}
-use Rattle.satl_origins.specs.Origins.{ComesWith, MayHold}
+use Rattle.satl_origins.specs.Origins.{ComesWith, IsRequestedIn, MayHold}
 use Rattle.satl_origins.proofs.Requested.{only_requested, only_requested_is_read}
 use Rattle.satl_serve.specs.declared.telling.Form.{Form}
 use Rattle.satl_serve.specs.Headline.{IsServedToEnd}
 use Rattle.satl_serve.specs.Moments.{Moment}
-use Rattle.satl_promise.specs.Served.{IsOnTheDrive, ServedInOrder, ServedNothingInvented, ServedNothingInventedBefore, ServedNothingInventedIsRead, ServedOnce, ServedOnceBefore, ServedOneEach, ServedUnderErrors, frames_read}
+use Rattle.satl_promise.specs.Served.{IsOnTheDrive, IsServedInto, ServedAtMostOnce, ServedInOrder, ServedNothingInvented, ServedNothingInventedBefore, ServedNothingInventedInto, ServedNothingInventedIsRead, ServedOnce, ServedOnceBefore, ServedOneEach, ServedUnderErrors, frames_read, frames_taken}
 
 -- a run to END leaves no task
 none_left : {first last : Device} {all : List Frame} {groups : List (List Answer)} {losses deep : ℕ} → RunDeep first all groups losses last deep → (before : List Frame) → all ≡ before ++ frames.End ∷ [] → last.tasks ≡ []
@@ -128,3 +133,46 @@ served_nothing_invented_before form limit why before after served x block holds 
     let s = served.run.run in
     comes_with_cells served.first x block before.drive.cells served.begins.tasks served.begins.cells
     (only_requested served.first served.last served.run.events served.run.groups s.losses s.deep s.run x block served.begins.valid (subst (λ cells. MayHold cells x block) served.ends.cells holds))
+
+-- ---- where a write failed in the answers to a frame
+
+-- an event that can be cut short asks for nothing, as the TURN that stands in its place
+cut_asks : (nexus tag : ℕ) (event : Frame) (count : ℕ) → CutTurns event count → how_many (asks_by nexus tag) (event ∷ []) ≡ 0
+cut_asks nexus tag (frames.Turn n) count asked = refl
+cut_asks nexus tag frames.End count asked = refl
+cut_asks nexus tag _ count asked = absurd asked
+
+done_asks : (nexus tag : ℕ) (all done : List Frame) → WereDone all done → how_many (asks_by nexus tag) done ≡ how_many (asks_by nexus tag) all
+done_asks nexus tag _ _ (all_done all) = refl
+done_asks nexus tag _ _ (last_cut before event count some asked) =
+    omega (arith, how_many-push (asks_by nexus tag) before event, how_many-push (asks_by nexus tag) before (frames.Turn count), cut_asks nexus tag event count asked)
+
+done_requests : (r : Request) (all done : List Frame) → WereDone all done → IsIn (frames.Request r) done → IsIn (frames.Request r) all
+done_requests r _ _ (all_done all) among = among
+done_requests r _ _ (last_cut before event count some asked) among = at (in_either (frames.Request r) before (frames.Turn count ∷ []) among)
+  where
+    at : IsIn (frames.Request r) before ⊎ IsIn (frames.Request r) (frames.Turn count ∷ []) → IsIn (frames.Request r) (before ++ event ∷ [])
+    at (inl earlier) = in_left (frames.Request r) before (event ∷ []) earlier
+    at (inr (inl is)) = absurd cc
+    at (inr (inr none)) = absurd none
+
+-- what was done of the frames, as a run
+what_was_done : (form : Form) (limit : ℕ) (before after : Moment) (served : IsServedInto form limit before after) →
+    (done : List Frame) × (deep : ℕ) × WereDone (frames_taken served) done × RunDeep served.first done (served.run.groups ++ (served.run.earlier ++ served.run.last) ∷ []) served.run.run.losses served.last deep
+what_was_done form limit before after served =
+    cut_short_is_a_run served.first served.last (frames_taken served) served.run.groups served.run.earlier served.run.last served.run.run.losses served.run.run.run
+
+pub served_at_most_once : ServedAtMostOnce
+served_at_most_once form limit before after served nexus tag =
+    let d = what_was_done form limit before after served in
+    omega (arith, run_counts nexus tag d.3, ap (how_many (is_called nexus tag)) served.begins.tasks, done_asks nexus tag (frames_taken served) d.0 d.2)
+
+pub served_nothing_invented_into : ServedNothingInventedInto
+served_nothing_invented_into form limit before after served x block holds =
+    let d = what_was_done form limit before after served in
+    of_all d.0 d.2 (comes_with_cells served.first x block before.drive.cells served.begins.tasks served.begins.cells
+    (only_requested served.first served.last d.0 (served.run.groups ++ (served.run.earlier ++ served.run.last) ∷ []) served.run.run.losses d.1 d.3 x block served.begins.valid (subst (λ cells. MayHold cells x block) served.ends.cells holds)))
+  where
+    of_all : (done : List Frame) → WereDone (frames_taken served) done → MayHold before.drive.cells x block ⊎ IsRequestedIn served.first done x block → MayHold before.drive.cells x block ⊎ IsRequestedIn served.first (frames_taken served) x block
+    of_all done were (inl holds) = inl holds
+    of_all done were (inr (r, among, by)) = inr (r, done_requests r (frames_taken served) done were among, by)

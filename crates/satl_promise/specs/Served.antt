@@ -1,5 +1,5 @@
 -- What serving an input to its end says to a host.
-use Rattle.std.specs.Prelude.{◌≡◌, ◌⊎◌, ℕ, ◌+◌, true, false, List, [], ◌∷◌, ◌++◌, length, map}
+use Rattle.std.specs.Prelude.{◌≡◌, ◌⊎◌, ℕ, ◌+◌, ◌≤◌, true, false, List, [], ◌∷◌, ◌++◌, length, map}
 use Rattle.std.specs.List.{AllByRecursion}
 use Rattle.satl_base.specs.declared.request.Request.{Request}
 use Rattle.satl_base.specs.declared.block.Block.{Block}
@@ -21,6 +21,7 @@ use Rattle.satl_origins.specs.Origins.{IsRequestedIn, MayHold, WasRead}
 use Rattle.satl_serve.specs.declared.telling.Form.{Form}
 use Rattle.satl_serve.specs.Headline.{IsServedBefore, IsServedToEnd}
 use Rattle.satl_serve.specs.Moments.{Moment}
+use Rattle.satl_serve.specs.Runs.{BrokeInAnswers, Serves}
 
 module _ {form : Form} {limit : ℕ} {before after : Moment} (served : IsServedToEnd form limit before after) where
   -- the frames that were read (profile)
@@ -38,7 +39,8 @@ module _ {form : Form} {limit : ℕ} {before after : Moment} (served : IsServedT
 
   -- READs and WRITEs have acted in order of arrival (SAM-5 8; SBC-3 5)
   pub record HasServedInOrder : Type 0 where
-    pub order : IsInOrderByPlace (λ x. was_done_at frames_read groups_written) served.first frames_read groups_written served.last
+    pub order : IsInOrderByPlace (λ x. was_done_at frames_read groups_written) served.first frames_read groups_written
+        served.last
     pub drive : IsOnTheDrive
 
   -- and each WRITE that is not answered with GOOD on each sector or not (SAM-5 8; SBC-3 5)
@@ -82,8 +84,8 @@ ServedOneEach =
     frames_read served ≡ earlier ++ frames.Request r ∷ later
     → how_many (answers_to r.nexus (r.tag).0) (answers_for (frames_read served) (groups_written served) (length earlier) r) ≡ 1
 
--- law of arrival order where an input is served: over a clean drive whose count of faults did not rise, where each request comes
--- once all earlier ones of its nexus and tag are answered (SAM-5 4.7, 8; SBC-3 5)
+-- law of arrival order where an input is served: over a clean drive whose count of faults did not rise, where each request
+-- comes once all earlier ones of its nexus and tag are answered (SAM-5 4.7, 8; SBC-3 5)
 abbrev pub ServedInOrder : Type 0
 ServedInOrder =
     (form : Form) (limit : ℕ) (before after : Moment) (served : IsServedToEnd form limit before after) →
@@ -125,3 +127,33 @@ ServedNothingInventedBefore =
     (x : ℕ) (block : Block) →
     MayHold after.drive.cells x block
     → MayHold before.drive.cells x block ⊎ IsRequestedIn served.first served.run.events x block
+
+-- ---- where a write failed in the answers to a frame
+
+-- an input was served up to a frame in whose answers a write failed (profile)
+abbrev pub IsServedInto : Form → ℕ → Moment → Moment → Type 0
+IsServedInto form limit before after = Serves (BrokeInAnswers form limit) before after
+
+module _ {form : Form} {limit : ℕ} {before after : Moment} (served : IsServedInto form limit before after) where
+  -- the frames that were read, and the answers to what was done of them, whose front was written (profile)
+  abbrev pub frames_taken : List Frame
+  frames_taken = served.run.events ++ served.run.event ∷ []
+
+  abbrev pub answers_due : List Answer
+  answers_due = joined (served.run.groups ++ (served.run.earlier ++ served.run.last) ∷ [])
+
+-- law of one answer there: the replies that are due to a nexus and tag and the tasks of it that still wait are together no more
+-- than its requests (SAM-5 5)
+abbrev pub ServedAtMostOnce : Type 0
+ServedAtMostOnce =
+    (form : Form) (limit : ℕ) (before after : Moment) (served : IsServedInto form limit before after) (nexus tag : ℕ)
+    → how_many (answers_to nexus tag) (answers_due served) + how_many (is_called nexus tag) served.last.tasks
+    ≤ how_many (asks_by nexus tag) (frames_taken served)
+
+-- law of origins there (SBC-3 4.15, 5)
+abbrev pub ServedNothingInventedInto : Type 0
+ServedNothingInventedInto =
+    (form : Form) (limit : ℕ) (before after : Moment) (served : IsServedInto form limit before after) (x : ℕ)
+    (block : Block) →
+    MayHold after.drive.cells x block
+    → MayHold before.drive.cells x block ⊎ IsRequestedIn served.first (frames_taken served) x block
