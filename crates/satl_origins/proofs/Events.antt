@@ -32,7 +32,7 @@ use Rattle.satl_origins.proofs.Held.{AllSo, so_left, so_mended, so_same, so_stru
 use Rattle.satl_origins.proofs.Steps.{AnswersSo, Asked, DeviceSo, GoesSo, RepliesSo, TaskSo, around_goes, goes_on, loss_goes, quiet_goes, same_cells, task_alike, tasks_alike, then_quiet, turns_go}
 
 -- an answer among some replies is one of them
-in_replied : (reply : Reply) (replies : List Reply) → IsIn (replied reply) (map replied replies) → IsIn reply replies
+pub in_replied : (reply : Reply) (replies : List Reply) → IsIn (replied reply) (map replied replies) → IsIn reply replies
 in_replied reply [] i = absurd i
 in_replied reply (r ∷ rs) i = ⊎_elim (λ same. inl (one_reply reply r same)) (λ later. inr (in_replied reply rs later)) i
 
@@ -52,7 +52,7 @@ module _ (A : Asked) (answers : AnswersSo A) where
   told_none : (replies : List Reply) → replies ≡ [] → RepliesSo A replies
   told_none replies same other i = absurd (subst (IsIn other) same i)
 
-  arrives_goes : (a : Arrival) (r : Request) (s new : Device) (replies : List Reply) → ArrivalSo s a → ArrivesAs a r s replies new → DeviceSo A s → GoesSo A s new replies
+  pub arrives_goes : (a : Arrival) (r : Request) (s new : Device) (replies : List Reply) → ArrivalSo s a → ArrivesAs a r s replies new → DeviceSo A s → GoesSo A s new replies
   arrives_goes (answered reply) r s new replies so h g = same_cells A s new s.tasks replies (ap (λ d. d.cells) h.1) (ap (λ d. d.identity) h.1) (ap (λ d. d.tasks) h.1) (told_one reply replies h.0 so) g.cells g.tasks
   arrives_goes (attended reply) r s new replies so h g = same_cells A s new s.tasks replies (ap (λ d. d.cells) h.1) (ap (λ d. d.identity) h.1) (ap (λ d. d.tasks) h.1) (told_one reply replies h.0 so) g.cells g.tasks
   arrives_goes (overlaps reply) r s new replies so h g =
@@ -60,7 +60,7 @@ module _ (A : Asked) (answers : AnswersSo A) where
   arrives_goes (waits task) r s new replies so h g =
       same_cells A s new (s.tasks ++ task ∷ []) replies (ap (λ d. d.cells) h.1) (ap (λ d. d.identity) h.1) (ap (λ d. d.tasks) h.1) (told_none replies h.0) g.cells (All-push_end (TaskSo A s) s.tasks task g.tasks so)
 
-  manages_goes : (m : Manage) (response : Response) (s new : Device) (replies : List Reply) → Manages m response s replies new → DeviceSo A s → GoesSo A s new replies
+  pub manages_goes : (m : Manage) (response : Response) (s new : Device) (replies : List Reply) → Manages m response s replies new → DeviceSo A s → GoesSo A s new replies
   manages_goes m response s new replies h g =
       same_cells A s new (filter (λ t. not ((effect m s).goes t)) s.tasks) replies (ap (λ d. d.cells) (h.1).stays) (ap (λ d. d.identity) (h.1).stays) (ap (λ d. d.tasks) (h.1).stays) (told_none replies h.0) g.cells
       (All-filter (TaskSo A s) (λ t. not ((effect m s).goes t)) s.tasks g.tasks)
@@ -84,7 +84,7 @@ module _ (A : Asked) (answers : AnswersSo A) where
       }
 
   -- an event of the bench, be it a loss of power
-  bench_goes : (event : BenchEvent) (s new : Device) (replies : List Reply) → Happens event s replies new → DeviceSo A s → GoesSo A s new replies
+  pub bench_goes : (event : BenchEvent) (s new : Device) (replies : List Reply) → Happens event s replies new → DeviceSo A s → GoesSo A s new replies
   bench_goes (bench.Strike which lba) s new replies h g = flaws_go s new lba (with_flaw which) replies (so_struck A.block which lba s.cells g.cells) h.new_is h.none g
   bench_goes (bench.Mend lba) s new replies h g = flaws_go s new lba without_flaws replies (so_mended A.block lba s.cells g.cells) h.new_is h.none g
   bench_goes bench.Power s new replies h g = record {

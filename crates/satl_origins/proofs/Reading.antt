@@ -1,7 +1,7 @@
 -- The law of origins of what is read: the request at a place, its task, and the answers up to the next use of its name.
 use Rattle.std.proofs.Common.{◌≡◌, ⊎_elim, inl, inr, refl, sym, ap, ◌∙◌, subst, ℕ, zero, suc, ◌+◌, Bool, true, false, List, [], ◌∷◌, ◌++◌, Some, None, length, map, arith}
 use Rattle.std.specs.Prelude.{not, ◌||◌, if◌then◌else◌, slice_get, take, drop, Result, Ok, Err}
-use Rattle.std.specs.List.{list_any}
+use Rattle.std.specs.List.{AllByRecursion, list_any}
 use Rattle.std.proofs.lemmas.Bool.{and_parts}
 use Rattle.satl_base.specs.declared.block.Block.{Block}
 use Rattle.satl_base.specs.declared.request.Request.{Request}
@@ -33,6 +33,7 @@ use Rattle.satl_laws.proofs.Addresses.{Alike, alike_none, alike_on}
 use Rattle.satl_laws.proofs.Arrivals.{IsFor, arrival_for}
 use Rattle.satl_laws.proofs.Arriving.{arrival_gets}
 use Rattle.satl_laws.proofs.Bringing.{Gets}
+use Rattle.satl_laws.proofs.Coming.{WritesItsOwn}
 use Rattle.satl_laws.proofs.Ends.{ends_leaves}
 use Rattle.satl_laws.proofs.Names.{none_in}
 use Rattle.satl_laws.proofs.Rows.{in_all}
@@ -40,7 +41,7 @@ use Rattle.satl_laws.proofs.Seen.{by_test}
 use Rattle.satl_laws.proofs.TaskEnds.{ends_read}
 use Rattle.satl_laws.proofs.Transferring.{Transfers, brings, gives, read_of}
 use Rattle.satl_renaming.specs.UsedAgain.{finds_its_name, how_many_before, names_are_free}
-use Rattle.satl_origins.specs.Origins.{BringsAtArrival, BringsIn, HasOrigin, MayHold, NothingInventedIsRead}
+use Rattle.satl_origins.specs.Origins.{BringsAtArrival, BringsIn, HasOrigin, MayHold, NothingInventedIsRead, WasRead}
 use Rattle.satl_origins.proofs.Events.{ArrivalSo, EventSo, does_go}
 use Rattle.satl_origins.proofs.Held.{AllSo}
 use Rattle.satl_origins.proofs.Runs.{all_own, at_first, blocks_alone, event_so, first_so, nothing_asked}
@@ -66,12 +67,12 @@ module _ (B : ℕ → Block → Type 0) where
   chain_push event now (one_more k rest) l = one_more k (chain_push event now rest l)
 
   -- quiet moves, and then events
-  record Begun (first last : Device) (events : List Frame) (groups : List (List Answer)) : Type 0 where
+  pub record Begun (first last : Device) (events : List Frame) (groups : List (List Answer)) : Type 0 where
     pub begin : Device
     pub quiet : Quiet first begin
     pub chain : Chain begin events groups last
 
-  begun : {first last : Device} {events : List Frame} {groups : List (List Answer)} {losses deep : ℕ} (run : RunDeep first events groups losses last deep)
+  pub begun : {first last : Device} {events : List Frame} {groups : List (List Answer)} {losses deep : ℕ} (run : RunDeep first events groups losses last deep)
       → ((x : ℕ) (block : Block) → HasOrigin x block run → B x block) → names_are_free run ≡ true → Begun first last events groups
   begun {last = last} (start quiet) its free = record { begin = last; quiet = quiet; chain = no_more }
   begun (next_event {s = s} event now d so_far does) its free =
@@ -88,13 +89,13 @@ module _ (B : ℕ → Block → Type 0) where
       not_true false h = refl
 
   -- the device at a place of the input, and the events from there on
-  record Reached (s : Device) (rest : List Frame) (groups : List (List Answer)) (last : Device) : Type 0 where
+  pub record Reached (s : Device) (rest : List Frame) (groups : List (List Answer)) (last : Device) : Type 0 where
     pub mid : Device
     pub alike : Alike s mid
     pub device : DeviceSo (blocks_alone B) mid
     pub chain : Chain mid rest groups last
 
-  reached : {s last : Device} {groups : List (List Answer)} (before rest : List Frame) → Chain s (before ++ rest) groups last → DeviceSo (blocks_alone B) s → Reached s rest (drop (length before) groups) last
+  pub reached : {s last : Device} {groups : List (List Answer)} (before rest : List Frame) → Chain s (before ++ rest) groups last → DeviceSo (blocks_alone B) s → Reached s rest (drop (length before) groups) last
   reached {s = s} [] rest chain so = record { mid = s; alike = alike_none s; device = so; chain = chain }
   reached {s = s} (event ∷ before) rest (one_more {mid = mid} {now = now} l chain) so =
       let g = does_go (blocks_alone B) (nothing_asked B) event s mid now l.depth (event_so B event s l.brings) l.does so in
@@ -226,22 +227,28 @@ module _ (B : ℕ → Block → Type 0) (r : Request) (lba count : ℕ) where
       ⊎_elim (g.told reply) (told_on B r.nexus (r.tag).0 lba rest g.device reply) (in_either (replied reply) now (joined (take (how_many_before r.nexus (r.tag).0 after) groups)) i)
 
 -- what stands behind a place
-drop_behind : (before : List Frame) (event : Frame) (after : List Frame) → drop (suc (length before)) (before ++ event ∷ after) ≡ after
+pub drop_behind : (before : List Frame) (event : Frame) (after : List Frame) → drop (suc (length before)) (before ++ event ∷ after) ≡ after
 drop_behind [] event after = refl
 drop_behind (e ∷ before) event after = drop_behind before event after
 
--- the law of origins of what is read
-pub nothing_invented_is_read : NothingInventedIsRead
-nothing_invented_is_read first last all groups losses deep run x block valid free read =
-    let B : ℕ → Block → Type 0 = λ y v. HasOrigin y v run in
+-- where each block with an origin in the run is so, each that a READ gave is so
+pub read_so : (B : ℕ → Block → Type 0) {first last : Device} {all : List Frame} {groups : List (List Answer)} {losses deep : ℕ} (run : RunDeep first all groups losses last deep)
+    → ((x : ℕ) (block : Block) → HasOrigin x block run → B x block) → AllByRecursion (λ t. WritesItsOwn t.command) first.tasks → names_are_free run ≡ true
+    → (x : ℕ) (block : Block) → WasRead first.identity.trim all groups x block → B x block
+read_so B {first = first} {last = last} {all = all} {groups = groups} run its own free x block read =
     let r : Request = read.request in
-    let b = begun B run (λ y v k. k) free in
-    let q = quiet_goes (blocks_alone B) first b.begin b.quiet (first_so B first (all_own first valid) (at_first run)) in
+    let b = begun B run its free in
+    let q = quiet_goes (blocks_alone B) first b.begin b.quiet (first_so B first own (λ y v there. its y v (at_first run y v there))) in
     let m = reached B read.before (frames.Request r ∷ read.after) (subst (λ l. Chain B b.begin l groups last) read.input b.chain) q.device in
     let same : (m.mid).identity ≡ first.identity = (alike_on first b.begin m.mid q.alike m.alike).identity in
     let behind : drop (suc (length read.before)) all ≡ read.after = ap (drop (suc (length read.before))) read.input ∙ drop_behind read.before (frames.Request r) read.after in
     let parts = and_parts (is_name r.nexus (r.tag).0 (read.reply).nexus ((read.reply).tag).0) (is_good (read.reply).status) (read.good).done in
-    subst (λ y. HasOrigin y block run) (sym read.sector)
+    subst (λ y. B y block) (sym read.sector)
     (told_read B r read.lba read.count read.after m.chain m.device (subst (λ i. IsReadOf (says r.cdb i.trim) read.lba read.count) (sym same) read.reads) read.reply
     (subst (λ l. IsIn (replied read.reply) (joined (take (suc (how_many_before r.nexus (r.tag).0 l)) (drop (length read.before) groups)))) behind (read.good).among)
     parts.0 parts.1 read.place block read.gave)
+
+-- the law of origins of what is read
+pub nothing_invented_is_read : NothingInventedIsRead
+nothing_invented_is_read first last all groups losses deep run x block valid free read =
+    read_so (λ y v. HasOrigin y v run) run (λ y v h. h) (all_own first valid) free x block read

@@ -34,12 +34,12 @@ use Rattle.satl_origins.proofs.Runs.{all_own, nothing_invented, run_so}
 -- ---- a task is that of its request
 
 -- a task that waits after an arrival is that of the command that the CDB says
-abbrev IsMade : Bool → Request → Result Command Illegal → Arrival → Type 0
+abbrev pub IsMade : Bool → Request → Result Command Illegal → Arrival → Type 0
 IsMade queued_trim r said (waits task) = (c : Command) × (said ≡ Ok c) × (task ≡ task_for queued_trim r c)
 IsMade queued_trim r said _ = Unit {0}
 
 module _ (s : Device) (r : Request) where
-  abbrev Made : Result Command Illegal → Arrival → Type 0
+  abbrev pub Made : Result Command Illegal → Arrival → Type 0
   Made said a = IsMade s.identity.queued_trim r said a
 
   made_unless : (said : Result Command Illegal) (why : Option Illegal) (next : Arrival) → Made said next → Made said (unless_refused why s r next)
@@ -83,7 +83,7 @@ module _ (s : Device) (r : Request) where
   attention_made None = said_made (says r.cdb s.identity.trim)
 
   -- each arrival
-  arrival_made : Made (says r.cdb s.identity.trim) (arrival s r)
+  pub arrival_made : Made (says r.cdb s.identity.trim) (arrival s r)
   arrival_made =
       let P = Made (says r.cdb s.identity.trim) in
       chosen P (is_unit_0 r.lun || asks_for 0xA0 r)
@@ -122,7 +122,7 @@ module _ (first : Device) (P : Frame → Type 0) (W : Request → ℕ → Block 
 -- ---- the laws
 
 -- what a task brings its command may write
-requested_each : (first : Device) → Each first (λ f. Unit {0}) (IsRequestedBy first)
+pub requested_each : (first : Device) → Each first (λ f. Unit {0}) (IsRequestedBy first)
 requested_each first r s alike p x block h = go (arrival s r) (arrival_made s r) h
   where
     go : (a : Arrival) → Made s r (says r.cdb s.identity.trim) a → BringsAtArrival s a x block → IsRequestedBy first r x block

@@ -124,7 +124,7 @@ module _ (A : Asked) where
     loss_goes s u replies cells identity same answer h = same_cells s u [] replies cells identity same (subst RepliesSo (sym answer) (lost_told s s.tasks h.tasks)) h.cells tt
 
     -- a task ends
-    one_goes : (s new : Device) (reply : Reply) → OneEnds s reply new → DeviceSo s → GoesSo s new (reply ∷ [])
+    pub one_goes : (s new : Device) (reply : Reply) → OneEnds s reply new → DeviceSo s → GoesSo s new (reply ∷ [])
     one_goes s new reply e h =
         let its = in_all (TaskSo s) s.tasks e.task h.tasks (may_end_in s e.task e.may) in
         let r = ends_reach s new e.task reply e.ends in
@@ -140,7 +140,7 @@ module _ (A : Asked) where
         }
 
     -- a turn
-    turn_goes : {s new : Device} {replies : List Reply} → Turn s replies new → DeviceSo s → GoesSo s new replies
+    pub turn_goes : {s new : Device} {replies : List Reply} → Turn s replies new → DeviceSo s → GoesSo s new replies
     turn_goes {s = s} (idle e) h = goes_none s h
     turn_goes {s = s} (ends {new = new} reply e) h = one_goes s new reply e h
     turn_goes {s = s} (loses {new = new} {answers = replies} some l) h = loss_goes s new replies (ap (λ d. d.cells) l.stays) (ap (λ d. d.identity) l.stays) (ap (λ d. d.tasks) l.stays) l.answer h

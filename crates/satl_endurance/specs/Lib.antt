@@ -1,0 +1,2 @@
+pub mod Endurance
+pub mod Flushed
