@@ -10,20 +10,20 @@ ghost use Rattle.satl_scenarios.specs.Scenario.{events_of, groups_of};
 ghost use Rattle.satl_renaming.specs.Retried.{IsOfArrivalOrderUsedAgain, IsOfErrorsUsedAgain, writes_both, writes_first, writes_first_again, writes_second, written_again, written_behind_an_abort};
 ghost use Rattle.satl_renaming.specs.UsedAgain.{AnsweredIsFree, ArrivalOrderUsedAgain, FirstReplyTells, NoSecondReply, OnceIsFree, OneReplyUsedAgain, OrderUnderErrorsUsedAgain, answers_from, was_done_at};
 
-/// Law of arrival order where tags are used again: in a run to END from a device at rest and without a loss of the link, where
-/// no request comes with the nexus and tag of a task that waits then and no command changes blocks but WRITE, each READ that is
-/// answered with GOOD gives the blocks of the WRITEs answered with GOOD before it in the input, and at the end each sector has
-/// the block of the last of all these. The answer to a request comes from its place on and before its nexus and tag are used
-/// again (SAM-5 4.7, 8; SBC-3 5).
+/// Law of arrival order where tags are used again: in a run to END from a device at rest and without a loss of the link or of
+/// power, where no request comes with the nexus and tag of a task that waits then and no command changes blocks but WRITE, each
+/// READ that is answered with GOOD gives the blocks of the WRITEs answered with GOOD before it in the input, and at the end
+/// each sector has the block of the last of all these. The answer to a request comes from its place on and before its nexus and
+/// tag are used again (SAM-5 4.7, 8; SBC-3 5).
 pub fn transfers_act_in_order_where_tags_are_used_again()
     ensures { ArrivalOrderUsedAgain }
 {}
 
 /// Law of order under errors where tags are used again: in a run with flaws, CRC errors, losses of the link and task management
-/// functions, where no request comes with the nexus and tag of a task that waits then and no command changes blocks but WRITE,
-/// each WRITE that was not answered with GOOD has acted on each sector or not, once and for all, and has not where it never
-/// became a task; each READ that is answered with GOOD gives the blocks of the WRITEs before it in the input that have acted,
-/// and at the end each sector has the block of the last of all these (SAM-5 4.7, 8; SBC-3 5).
+/// functions, and without a loss of power, where no request comes with the nexus and tag of a task that waits then and no
+/// command changes blocks but WRITE, each WRITE that was not answered with GOOD has acted on each sector or not, once and for
+/// all, and has not where it never became a task; each READ that is answered with GOOD gives the blocks of the WRITEs before it
+/// in the input that have acted, and at the end each sector has the block of the last of all these (SAM-5 4.7, 8; SBC-3 5).
 pub fn each_write_acts_in_order_or_not_at_all_where_tags_are_used_again()
     ensures { OrderUnderErrorsUsedAgain }
 {}
