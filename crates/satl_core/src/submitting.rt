@@ -5,7 +5,6 @@ ghost use Rattle.satl_frame.specs.Output.{IsWritable};
 ghost use Rattle.satl_cdb.specs.Unmap as unmap;
 ghost use Rattle.satl_regs.specs.Trim.{IsTrimList, trim_block};
 ghost use Rattle.satl_direct.specs.Arrival.{reply_to};
-ghost use Rattle.satl_direct.specs.Senses;
 ghost use Rattle.satl_identify.specs.Refusals.{IsIdentity};
 ghost use Rattle.satl_mode.specs.SelectList.{select_fault};
 ghost use Rattle.satl_direct.specs.Tasks.{asks, data_out_kept, fault_of_block, held_blocks, needed, task_without_pages};
@@ -118,13 +117,6 @@ pub fn read_lengths(request: &Request)
     let _low_of_ten = request.cdb[8];
 }
 
-/// A refusal: CHECK CONDITION with its sense data (SPC-4 4.5.6).
-fn refused(why: Illegal) -> AtOnce
-    ensures { result ≡ AtOnce.Check (Senses.refusal_sense why) }
-{
-    AtOnce::Check(refusal_sense(why))
-}
-
 /// Judges a request by its operation code, its fields and its data-out: its command, which may become a task, or why it is
 /// answered at once.
 pub fn judge_code(satl: &Satl, request: &Request) -> Result<Command, AtOnce>
@@ -134,7 +126,7 @@ pub fn judge_code(satl: &Satl, request: &Request) -> Result<Command, AtOnce>
 {
     let command = match read_cdb(&request.cdb, satl.identity.trim) {
         Ok(command) => command,
-        Err(why) => return Err(refused(why)),
+        Err(why) => return Err(AtOnce::Check(refusal_sense(why))),
     };
     match judge_command(satl, request, &command) {
         None => Ok(command),
@@ -149,7 +141,7 @@ fn judge_command(satl: &Satl, request: &Request, command: &Command) -> Option<At
     ensures can { IfNone result (CanPass command.now) }
 {
     if let Some(why) = fields_fault(command) {
-        return Some(refused(why));
+        return Some(AtOnce::Check(refusal_sense(why)));
     }
     let range = range_of(command);
     if range.goes_past(satl.identity.capacity) {
@@ -164,13 +156,13 @@ fn judge_data(satl: &Satl, request: &Request, command: &Command) -> Option<AtOnc
     ensures { unless_answered result command.now ≡ data_answer satl.now request.now command.now }
 {
     if let Some(why) = length_fault(command) {
-        return Some(refused(why));
+        return Some(AtOnce::Check(refusal_sense(why)));
     }
     if u64::from(request.data_len) < needed(command) {
         return Some(AtOnce::Check(short_data()));
     }
     match data_fault(satl, request, command) {
-        Some(why) => Some(refused(why)),
+        Some(why) => Some(AtOnce::Check(refusal_sense(why))),
         None => answer_to(satl, request, command),
     }
 }
